@@ -57,15 +57,17 @@ _opgen_at() {
 _opgen_sweep() {
   compopt -o nospace 2>/dev/null
   case $1 in
-  version=*) _opgen_words "version=1 version=2 version=3" "$1" ;;
+  version=*) _opgen_words "version=1 version=2 version=3 version=4" "$1" ;;
   kind=*) _opgen_words "kind=scale kind=fir kind=multiply kind=divide kind=root kind=mcm kind=constdiv kind=poly kind=tfir kind=sop" "$1" ;;
   exact=*) _opgen_words "exact=true exact=false" "$1" ;;
   target=*) _opgen_words "target=plain target=fixed" "$1" ;;
   signed=*) _opgen_words "signed=true signed=false" "$1" ;;
   out_signed=*) _opgen_words "out_signed=true out_signed=false" "$1" ;;
+  overflow=*) _opgen_words "overflow=saturate overflow=wrap" "$1" ;;
   compressor=*) _opgen_words "compressor=dadda compressor=counters" "$1" ;;
+  recurrence=*) _opgen_words "recurrence=restoring recurrence=nonrestoring" "$1" ;;
   *=*) ;;
-  *) _opgen_words "version= name= kind= exact= target= period= signed= width= lsb= width_a= lsb_a= width_b= lsb_b= out_lsb= out_width= out_signed= coefficients= denominator= constants= extra= divisor= taps= compressor= offset=" "$1" ;;
+  *) _opgen_words "version= name= kind= exact= target= period= signed= width= lsb= width_a= lsb_a= width_b= lsb_b= out_lsb= out_width= out_signed= overflow= coefficients= denominator= constants= extra= divisor= taps= compressor= recurrence= lut= offset=" "$1" ;;
   esac
 }
 complete -F _opgen opgen

@@ -39,15 +39,17 @@ _opgen() {
 # A key of a specification, or one of the words that it may be.
 _opgen_sweep() {
   case $1 in
-  version=*) compadd -- version=1 version=2 version=3 ;;
+  version=*) compadd -- version=1 version=2 version=3 version=4 ;;
   kind=*) compadd -- kind=scale kind=fir kind=multiply kind=divide kind=root kind=mcm kind=constdiv kind=poly kind=tfir kind=sop ;;
   exact=*) compadd -- exact=true exact=false ;;
   target=*) compadd -- target=plain target=fixed ;;
   signed=*) compadd -- signed=true signed=false ;;
   out_signed=*) compadd -- out_signed=true out_signed=false ;;
+  overflow=*) compadd -- overflow=saturate overflow=wrap ;;
   compressor=*) compadd -- compressor=dadda compressor=counters ;;
+  recurrence=*) compadd -- recurrence=restoring recurrence=nonrestoring ;;
   *=*) ;;
-  *) compadd -S '' -- version= name= kind= exact= target= period= signed= width= lsb= width_a= lsb_a= width_b= lsb_b= out_lsb= out_width= out_signed= coefficients= denominator= constants= extra= divisor= taps= compressor= offset= ;;
+  *) compadd -S '' -- version= name= kind= exact= target= period= signed= width= lsb= width_a= lsb_a= width_b= lsb_b= out_lsb= out_width= out_signed= overflow= coefficients= denominator= constants= extra= divisor= taps= compressor= recurrence= lut= offset= ;;
   esac
 }
 compdef _opgen opgen

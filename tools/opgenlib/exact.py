@@ -120,13 +120,32 @@ def exact_of(spec: dict) -> Exact:
 
 
 def exact_values(spec: dict, outs: Sequence[Port]) -> Exact:
-    """The exact values of a kind; of an output of a chosen width brought into its range."""
+    """The exact values of a kind; of an output of a chosen width brought into its range, by its least or greatest number or by turns."""
     exact = exact_of(spec)
     if "out_width" not in spec:
         return exact
     least, greatest = Fraction(outs[0].least), Fraction(outs[0].greatest)
 
-    def saturated(inputs: Sequence[Sequence[int]], cycle: int) -> list[Fraction]:
-        return [min(max(value, least), greatest) for value in exact(inputs, cycle) or []]
+    def chosen(inputs: Sequence[Sequence[int]], cycle: int) -> list[Fraction]:
+        values = exact(inputs, cycle) or []
+        return [turned(value, outs[0]) if wraps(spec) else min(max(value, least), greatest) for value in values]
 
-    return saturated
+    return chosen
+
+
+def turned(value: Fraction, port: Port) -> Fraction:
+    """A value modulo 2 to the power of an output's width, in its range or less than one unit above."""
+    return port.least + (value - port.least) % (1 << port.width)
+
+
+def wraps(spec: dict) -> bool:
+    """Whether the output of a chosen width wraps, and does not saturate."""
+    return spec.get("overflow") == "wrap"
+
+
+def error_of(spec: dict, found: int, value: Fraction) -> Fraction:
+    """How far an output is from its exact value; of one that wraps by the turn that is nearest."""
+    if not wraps(spec):
+        return found - value
+    turn = 1 << spec["out_width"]
+    return (found - value + turn // 2) % turn - turn // 2

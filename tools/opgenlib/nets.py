@@ -10,7 +10,8 @@ from .circuits import generated
 from .drawings.adders import read_place
 from .drawings.example import Example
 from .drawings.parts import RANGE_TEST, parts_of
-from .drawings.schedule import cell_of, checked_schedule, delays
+from .drawings.schedule import cell_of, checked_schedule
+from .target import delays
 from .vhdl import names_in
 
 

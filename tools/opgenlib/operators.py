@@ -7,7 +7,7 @@ from dataclasses import dataclass
 from fractions import Fraction
 from typing import Any
 
-from .exact import Exact, coefficients_of, exact_values
+from .exact import Exact, coefficients_of, exact_of, exact_values, turned, wraps
 from .report import Port
 from .specification import is_always_exact
 
@@ -61,7 +61,16 @@ class Operator:
             return None
         if self.is_exact:
             return [tuple(map(int, values))] if all(value.denominator == 1 for value in values) else []
+        if wraps(self.spec):
+            return self.good_wrapped(inputs, at)
         return [(whole,) for whole in sorted({math.floor(values[0]), math.ceil(values[0])})]
+
+    def good_wrapped(self, inputs: Sequence[Numbers], at: int) -> list[Numbers]:
+        """The good outputs that wrap: what is good without a chosen width, which a polynomial's format may not hold, by turns."""
+        value = exact_of(self.spec)(inputs, at)[0]
+        least, greatest = ends_of_polynomial(self.spec) if self.spec["kind"] == "poly" else (math.floor(value), math.ceil(value))
+        wholes = [whole for whole in (math.floor(value), math.ceil(value)) if least <= whole <= greatest]
+        return sorted({(int(turned(Fraction(whole), self.outputs[0])),) for whole in wholes})
 
     def bad_rows(self, rows: Sequence[Row], latency: int) -> Iterator[int]:
         """The rows, from the latency on, whose outputs are not good for the inputs up to the row so many before."""
@@ -70,6 +79,20 @@ class Operator:
             good = self.good(inputs, at - latency)
             if good is not None and rows[at][1] not in good:
                 yield at
+
+
+def ends_of_polynomial(spec: dict[str, Any]) -> tuple[int, int]:
+    """The least and the greatest number of a polynomial's format without a chosen width: by the bounds of Horner's rule."""
+    coefficients = coefficients_of(spec)
+    guard = (3 * (len(coefficients) - 1)).bit_length()
+    low = high = 0
+    for number in reversed([math.floor(coefficient * 2**guard + Fraction(1, 2)) for coefficient in coefficients]):
+        low, high = number + min(low, 0), number + max(high, 0)
+    least, greatest = (math.floor(Fraction(end, 2**guard) + Fraction(1, 2)) for end in (low, high))
+    if least >= 0:
+        return 0, (1 << max(1, greatest.bit_length())) - 1
+    half = 1 << max(1, (~least).bit_length(), greatest.bit_length())
+    return -half, half - 1
 
 
 def operator_of(spec: dict[str, Any], ports: Sequence[Port]) -> Operator:

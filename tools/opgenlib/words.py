@@ -1,4 +1,5 @@
 """What an operator computes, in which formats and when, in words: by its specification and its report."""
+from .exact import wraps
 from .report import Port, Report
 from .specification import is_always_exact
 from .terms import formula_of, terms_of
@@ -28,12 +29,12 @@ def constant_text(spec: dict) -> str:
 
 def formula(spec: dict) -> str:
     """What is computed, by the specification."""
-    saturated = f", saturated to {spec['out_width']} bits" if "out_width" in spec else ""
-    return value_formula(spec) + saturated
+    chosen = f", {'wrapped' if wraps(spec) else 'saturated'} to {spec['out_width']} bits" if "out_width" in spec else ""
+    return value_formula(spec) + chosen
 
 
 def value_formula(spec: dict) -> str:
-    """What is computed, before an output of a chosen width is saturated."""
+    """What is computed, before an output of a chosen width is saturated or wraps."""
     last = len(spec.get("coefficients", spec.get("taps", []))) - 1
     over = f" over {spec['denominator']}" if spec.get("denominator", 1) != 1 else ""
     match spec["kind"]:
@@ -70,7 +71,9 @@ def is_exact(spec: dict, facts: Report) -> bool:
 
 def reference(spec: dict) -> str:
     """The value that an output is near."""
-    return "the saturated value" if "out_width" in spec else "the exact value"
+    if "out_width" not in spec:
+        return "the exact value"
+    return "the wrapped value" if wraps(spec) else "the saturated value"
 
 
 def mode_text(spec: dict, facts: Report) -> str:

@@ -45,14 +45,10 @@ width_b = 4
 lsb_b = -1
 out_lsb = 0
 """
+WHOLE = MULTIPLY.replace("lsb_b = -1", "lsb_b = 0")
 SCALE3 = SCALE.replace("version = 1", "version = 3")
-# What is said of a version that is not open.
-NO_VERSION_4 = (
-    "first.toml:1:11: version is 4; expected 1, 2 or 3",
-    "  1: inputs to 32 bits, signals to 64; 2: inputs to 48 bits, signals to 96, and the kinds constdiv, poly and tfir; "
-    "3: signed quotients, outputs of a chosen width, lowest bits to 64 places off, constants and taps of 20 bits without extra, "
-    "and the kind sop",
-)
+SCALE4 = SCALE.replace("version = 1", "version = 4")
+DADDA = 'compressor = "dadda"\n'
 ROOT = """\
 version = 2
 name = "first"
@@ -90,6 +86,17 @@ lsb = 0
 divisor = 3
 """
 TFIR = MCM.replace("version = 1", "version = 2").replace('"mcm"', '"tfir"').replace("constants", "taps")
+POLY = """\
+version = 2
+name = "first"
+kind = "poly"
+exact = false
+target = "plain"
+period = 10000
+width = 4
+out_lsb = 0
+coefficients = [0, 1]
+"""
 BY_RULE = TFIR.replace("version = 2", "version = 3").replace("extra = 0\n", "")
 CUT = TFIR.replace("version = 2", "version = 3") + "out_lsb = 2\n"
 SOP = """\
@@ -309,8 +316,56 @@ SPECIFICATIONS = [
     generated("a text in a delay line", DELAYS.replace("base = 1\nper_bit = 1\n\n", 'base = "1"\nper_bit = 1\n\n'),
               "WrongType base 1",
               'first.toml:14:8: base of delay line 1 is "1", a text; expected a whole number of picoseconds, 0 to 1000000, as 1'),
-    generated("version 4", SCALE.replace("version = 1", "version = 4"), "BadVersion 4", *NO_VERSION_4),
-    generated("a clash of keys of version 4", SCALE.replace("version = 1", "version = 4") + 'rounding = "down"\n', "WrongType rounding", *NO_VERSION_4),
+    generated("version 5", SCALE.replace("version = 1", "version = 5"), "BadVersion 5",
+              "first.toml:1:11: version is 5; expected 1, 2, 3 or 4",
+              "  1: inputs to 32 bits, signals to 64; 2: inputs to 48 bits, signals to 96, and the kinds constdiv, poly and tfir; "
+              "3: signed quotients, outputs of a chosen width, lowest bits to 64 places off, constants and taps of 20 bits without extra, "
+              "and the kind sop",
+              "  4: sums cut to the period, outputs that wrap, quotients by addition and subtraction; some keys and values are not made yet"),
+    generated("a circuit of rows", SCALE4, "BadVersion 4",
+              "first.toml: there is no compressor, which stands for rows; no circuit of kind scale is made of rows yet",
+              '  write compressor = "dadda" or "counters", or version = 3'),
+    generated("a circuit of rows by its name", SCALE4 + 'compressor = "rows"\n', "BadVersion 4",
+              'first.toml:12:14: compressor is "rows", of which no circuit of kind scale is made yet in version 4',
+              '  write compressor = "dadda" or "counters"'),
+    generated("rounding", SCALE4.replace("exact = true", "exact = false") + DADDA + 'rounding = "down"\n', "BadVersion 4",
+              'first.toml:13:12: rounding is "down", of which no circuit of kind scale is made yet in version 4',
+              "  take rounding out"),
+    generated("rounding in version 3", SCALE3.replace("exact = true", "exact = false") + 'rounding = "down"\n', "UnknownKey 0 7",
+              'first.toml:12:1: unknown key "rounding" of kind scale; its keys are version, name, kind, exact, target, period, signed, '
+              "width, lsb, out_lsb, out_width, out_signed, coefficients, denominator, compressor, delay",
+              "  rounding is a key of version 4, of which no circuit is made yet: take it out"),
+    generated("an output that wraps in version 3", SCALE3 + 'out_width = 4\noverflow = "wrap"\n', "UnknownKey 0 7",
+              'first.toml:13:1: unknown key "overflow" of kind scale; its keys are version, name, kind, exact, target, period, signed, '
+              "width, lsb, out_lsb, out_width, out_signed, coefficients, denominator, compressor, delay",
+              '  overflow is a key of version 4: take it out, or write version = 4 and compressor = "dadda"'),
+    generated("tables of five inputs", SCALE4 + DADDA + "lut = 5\n", "BadVersion 4",
+              "first.toml:13:7: lut is 5, of which no circuit of kind scale is made yet in version 4", "  write lut = 6"),
+    generated("a polynomial with counters", POLY.replace("version = 2", "version = 4") + 'compressor = "counters"\n', "BadVersion 4",
+              'first.toml:10:14: compressor is "counters", of which no circuit of kind poly is made yet in version 4',
+              '  write compressor = "dadda"'),
+    generated("a quotient of a chosen width", DIVIDE.replace("version = 1", "version = 4").replace("exact = true", "exact = false")
+              + "out_width = 4\n", "BadVersion 4",
+              "first.toml:12:13: out_width is 4, of which no circuit of kind divide is made yet in version 4", "  take out_width out"),
+    generated("an exact quotient of a chosen width", DIVIDE.replace("version = 1", "version = 4") + "out_width = 4\n", "WrongType out_width",
+              "first.toml:12:1: out_width is beside exact = true", "  take out_width out"),
+    generated("a cut filter of version 4", CUT.replace("version = 3", "version = 4").replace("exact = true", "exact = false"), "BadVersion 4",
+              "first.toml:12:11: out_lsb is 2, of which no circuit of kind tfir is made yet in version 4",
+              "  write out_lsb = 0 or less, or version = 3"),
+    generated("many products in version 4",
+              SOP_HEAD.replace("version = 3", "version = 4") + DADDA + 'input = [{name = "a", signed = true, width = 4, lsb = 0}]\n'
+              + "product = [" + ", ".join(17 * ['{a = "a", b = "a"}']) + "]\n", "BadVersion 4",
+              "first.toml:10:11: product has 17 tables, of which no circuit of kind sop is made yet in version 4",
+              "  write at most 16 tables of product"),
+    generated("a clash of keys of version 4", SCALE4 + 'rounding = "down"\n', "WrongType rounding",
+              "first.toml:12:1: rounding is beside exact = true", "  take rounding out"),
+    generated("an overflow alone", SCALE4 + DADDA + 'overflow = "wrap"\n', "WrongType overflow",
+              "first.toml:13:1: overflow is there without out_width", "  write out_width too, 2 to 96, or take overflow out"),
+    generated("an unknown overflow", SCALE4 + DADDA + 'out_width = 4\noverflow = "clip"\n', "OutOfRange overflow 4",
+              'first.toml:14:12: overflow is "clip"; expected one of saturate, wrap'),
+    generated("a word of VHDL-2008", SCALE4.replace('"first"', '"context"') + DADDA, "BadName",
+              'first.toml:2:8: name is "context": a word of VHDL, or a name of a port of some operator',
+              "  expected 1 to 32 of small letters, digits and single _, a letter first, and no word of VHDL or port"),
     generated("a capital in the name", SCALE.replace('"first"', '"First"'), "BadName",
               'first.toml:2:8: name is "First": it has a capital letter',
               "  expected 1 to 32 of small letters, digits and single _, a letter first, and no word of VHDL or port"),
@@ -429,6 +484,18 @@ SPECIFICATIONS = [
     generated("a short period", SCALE.replace("10000", "400"), "PeriodTooShort 900",
               "first.toml:6:10: period 400 is too short: the slowest cell and the setup time need 900 ps",
               "  write period = 900 or more, or make the operator narrower"),
+    generated("a short period for a sum", WHOLE.replace("period = 10000", "period = 700").replace("width_a = 4", "width_a = 8"),
+              "PeriodTooShort 960",
+              "first.toml:6:10: period 700 is too short: the slowest cell and the setup time need 960 ps",
+              "  write period = 960 or more, or make the operator narrower",
+              '  or write version = 4 and compressor = "dadda", which cuts this sum of 12 bits into pieces'),
+    generated("a short period for sums that are cut",
+              WHOLE.replace("period = 10000", "period = 500").replace("version = 1", "version = 4") + DADDA, "PeriodTooShort 720",
+              "first.toml:6:10: period 500 is too short: the slowest cell and the setup time need 720 ps",
+              "  write period = 720 or more: sums are cut to the period, so what is too slow is a sum of 4 bits"),
+    generated("a short period for a table", SCALE4.replace("period = 10000", "period = 800") + DADDA, "PeriodTooShort 900",
+              "first.toml:6:10: period 800 is too short: the slowest cell and the setup time need 900 ps",
+              "  write period = 900 or more: sums are cut to the period, so what is too slow is a table of 4 bits"),
     generated("too many signals",
               FIR.replace("[3]", str([999_999_937 - k for k in range(256)])).replace("width = 4", "width = 26")
               .replace("exact = true", "exact = false").replace("out_lsb = 0", "out_lsb = 12"), "TooLarge",

@@ -7,7 +7,7 @@ from fractions import Fraction
 from functools import cache
 from typing import Any
 
-from opgenlib import asking, drawing, operators, program, rows, specification, words
+from opgenlib import asking, drawing, exact, operators, program, rows, specification, words
 from opgenlib.operators import Operator
 from opgenlib.report import Port, read_report
 from opgenlib.writing import document
@@ -228,6 +228,18 @@ class Worked(unittest.TestCase):
         self.check(spec | {"out_signed": True}, ("3 : 2 or 3", "5 : 3", "f : 3"))
         self.check(spec, ("3 : 2 or 3", "5 : 3 or 4", "9 : 6 or 7", "a : 7", "f : 7"))
 
+    def test_wrapping(self):
+        """3 x modulo 16; 21/8 x modulo 8, where 63/8 may be 7 or 8, which is 0, and 21 is 5."""
+        scale = SCALE | {"version": 4, "compressor": "dadda", "overflow": "wrap", "out_width": 4}
+        self.check(scale, ("5 : f", "6 : 2", "f : d"))
+        self.check(scale | {"signed": True}, ("8 : 8", "d : 7", "3 : 9"))
+        self.check(scale | {"signed": True, "out_signed": False}, ("f : d", "8 : 8"))
+        self.check(scale | {"out_width": 8, "signed": True, "out_signed": False}, ("f : fd", "7 : 15"))
+        self.check(scale | {"exact": False, "coefficients": [21], "denominator": 8, "out_width": 3}, ("3 : 0 or 7", "1 : 2 or 3", "8 : 5"))
+        self.assertEqual(exact.error_of(scale, 0, Fraction(63, 4)), Fraction(1, 4))
+        self.assertEqual(exact.error_of(scale, 3, Fraction(5, 2)), Fraction(1, 2))
+        self.assertEqual(exact.error_of(SCALE, 0, Fraction(63, 4)), Fraction(-63, 4))
+
     def check_in_turn(self, spec, rows_of):
         """The rows of successive cycles, the first of them cycle 0."""
         operator = operator_of(spec)
@@ -258,6 +270,7 @@ class Worked(unittest.TestCase):
         self.assertEqual(words.formula(QUOTIENT), "q = a / b, rounded towards 0, and r = a - q b; b must not be 0")
         self.assertEqual(words.formula(QUOTIENT | {"signed": False, "exact": False}), "q = a / b; b must not be 0")
         self.assertEqual(words.formula(SCALE | {"out_width": 4}), "y = x * 3, saturated to 4 bits")
+        self.assertEqual(words.formula(SCALE | {"out_width": 4, "overflow": "wrap"}), "y = x * 3, wrapped to 4 bits")
         self.assertEqual(words.formula(FILTER), "y(t) = c0 x(t) + .. + c2 x(t - 2), c0 to c2 the taps below")
         self.assertEqual(words.formula(FILTER | {"taps": [5]}), "y = x * 5")
 
@@ -283,14 +296,14 @@ class Good(Held):
         self.assertGreater(lines, 500)
 
     def test_exact_values(self):
-        """A good output is less than one from the exact value, in each line of cases/judged/rows.txt."""
+        """A good output is less than one from the exact value, of one that wraps by a turn, in each line of cases/judged/rows.txt."""
         for group in JUDGED.groups_of(JUDGED.TABLE):
             operator = operator_of(tomllib.loads(group.document))
             for line in group.lines:
                 entered = [numbers(row, operator.inputs) for row in line.rows]
                 for good in operator.good(entered, len(entered) - 1) or []:
-                    for one, exact in zip(good, operator.exact(entered, len(entered) - 1), strict=True):
-                        self.assertLess(abs(one - exact), Fraction(1))
+                    for one, value in zip(good, operator.exact(entered, len(entered) - 1), strict=True):
+                        self.assertLess(abs(exact.error_of(operator.spec, one, value)), Fraction(1))
 
 
 if __name__ == "__main__":

@@ -1,11 +1,12 @@
 -- A step of a division on numbers, and what a quotient with a remainder is to a fraction.
-use Rattle.std.proofs.Common.{◌≡◌, ℕ, ◌+◌, ◌-◌, ◌*◌, ◌%◌, ◌^◌, ◌<◌, ◌≤◌, Bool, true, false, refl, ap, ◌∙◌, subst, arith, inl, inr, nat_le}
+use Rattle.std.proofs.Common.{◌≡◌, ℕ, ◌+◌, ◌-◌, ◌*◌, ◌%◌, ◌^◌, ◌<◌, ◌≤◌, Bool, true, false, refl, sym, ap, ◌∙◌, subst, arith, inl, inr, nat_le}
 use Rattle.std.specs.Prelude.{if◌then◌else◌}
 use Rattle.std.proofs.Math.Nat.{mod-eq_of_lt}
 use Rattle.std.proofs.lemmas.Bool.{cases_lt, le-leb, lt-leb}
 use Rattle.opgen_num.specs.Rounding.{IsQuotient}
 use Rattle.opgen_num.specs.Words.{digit}
 use Rattle.opgen_digits.specs.Digit.{left_of}
+use Rattle.opgen_nonrestoring.specs.Steps.{IsQuotientOf}
 use Rattle.opgen_divide.specs.Steps.{IsDivided}
 
 -- the next bit of the numerator, and the next digit of the quotient
@@ -52,6 +53,16 @@ some_rest false n b q r h = h
 pub kept_rest : (keep : Bool) (n b q r : ℕ) → keep ≡ true → IsDivided keep n b q r → IsQuotient n b q r
 kept_rest true n b q r e h = h
 kept_rest false n b q r e h = absurd (cc)
+
+-- a rest that is kept where another is
+pub kept_where : (keep exact : Bool) (n b q r : ℕ) → (exact ≡ true → keep ≡ true) → IsDivided keep n b q r → IsDivided exact n b q r
+kept_where keep true n b q r e h = kept_rest keep n b q r (e refl) h
+kept_where keep false n b q r e h = some_rest keep n b q r h
+
+-- a quotient of a division without restoring
+pub divided_of : (exact : Bool) (n b q r : ℕ) → IsQuotientOf exact n b q r → IsDivided exact n b q r
+divided_of true n b q r h = subst (IsQuotient n b q) (sym (h.remainder refl)) h.quotient
+divided_of false n b q r h = (n - q * b, h.quotient)
 
 pub is_divided : (keep : Bool) (n b q r : ℕ) → IsQuotient n b q r → IsDivided keep n b q r
 is_divided true n b q r h = h

@@ -1,5 +1,5 @@
--- The net of a quotient: its digits from the highest, one for each bit of the numerator. Of signed inputs the
--- absolute values are divided, and the results have their signs put to them.
+-- The net of a quotient: its digits from the highest, one for each bit of the numerator, with restoring or without. Of signed
+-- inputs the absolute values are divided, and the results have their signs put to them.
 use Rattle.std.specs.Prelude.{ℕ, zero, suc, ◌+◌, Bool, true, false, ◌||◌, List, [], ◌∷◌, ◌++◌, codes, length, nat_lt, replicate, slice_index_or}
 use Rattle.opgen_design.specs.declared.expr.Op.TheVariants.{Xor}
 use Rattle.opgen_design.specs.Tree.{Tree, chain, none, more}
@@ -11,10 +11,14 @@ use Rattle.opgen_net.specs.declared.word_bits.WordBit.TheVariants.{Zero}
 use Rattle.opgen_net.specs.WordRule.{bits_from}
 use Rattle.opgen_kinds.specs.declared.pair.Pair.{Pair}
 use Rattle.opgen_kinds.specs.Pair.{pair_shift}
+use Rattle.opgen_ports.specs.declared.recipes.Recurrence.{Recurrence}
+use Rattle.opgen_ports.specs.declared.recipes.Recurrence.TheVariants.{Restoring, Nonrestoring}
 use Rattle.opgen_ports.specs.Reaches.{places_up}
 use Rattle.opgen_net.specs.Placed.{Placed, with_bits, with_last}
 use Rattle.opgen_digits.specs.Digit.{Known, tried}
 use Rattle.opgen_digits.specs.Results.{with_results}
+use Rattle.opgen_nonrestoring.specs.declared.Divisor.{Divisor}
+use Rattle.opgen_nonrestoring.specs.Recipe.{divided}
 use Rattle.opgen_divide.specs.Sign.{sign_of, with_absolute, with_signed}
 
 -- the dividend is node 0, the divisor node 1
@@ -48,6 +52,8 @@ numerator p = bits_from (with_magnitudes p).dividend 0 p.a.width ++ replicate (p
 abbrev pub digit_count : Pair → ℕ
 digit_count p = p.a.width + places_up (pair_shift p)
 
+-- With restoring, each step takes the divisor off and puts it back where that was too much.
+
 -- the divisor with two zeros above it
 abbrev pub with_divisor : Pair → Placed
 with_divisor p = with_bits (with_magnitudes p).net (Zero ∷ Zero ∷ bits_from (with_magnitudes p).divisor 0 p.b.width)
@@ -69,6 +75,18 @@ keeps p k = p.exact || nat_lt k (digit_count p)
 abbrev pub after : Pair → (steps : ℕ) → Known
 after p zero = record { net = (with_divisor p).net; digits = []; rest = replicate p.b.width Zero }
 after p (suc k) = stepped (keeps p (suc k)) p.b.width (with_divisor p).place (after p k) (slice_index_or (numerator p) k Zero)
+
+-- the node of the divisor without its sign
+abbrev pub divisor_node : Pair → Divisor
+divisor_node p = record { node = (with_magnitudes p).divisor; width = p.b.width }
+
+-- the quotient and the remainder of the numbers without their signs, by the recurrence that is asked for
+abbrev pub divided_by : Recurrence → Pair → Known
+divided_by Restoring p = after p (digit_count p)
+divided_by Nonrestoring p = divided p.exact (numerator p) (divisor_node p) (with_magnitudes p).net
+
+abbrev pub divided_sizes : Pair → Known
+divided_sizes p = divided_by p.recurrence p
 
 -- A quotient below 0 is one of inputs of which exactly one is below 0. It has a bit more than it has digits.
 abbrev pub signs_differ : Pair → Tree
@@ -101,4 +119,4 @@ abbrev pub with_signs : Pair → Known → Known
 with_signs p known = results_of p.a.signed p known
 
 abbrev pub net_of_pair : Pair → Net
-net_of_pair p = with_results p.exact (codes "q") (with_signs p (after p (digit_count p)))
+net_of_pair p = with_results p.exact (codes "q") (with_signs p (divided_sizes p))

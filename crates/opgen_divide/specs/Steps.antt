@@ -1,5 +1,5 @@
 -- The invariant of a division: after each step, the bits of the numerator so far, as a number, are the quotient so far times the
--- divisor, plus a remainder below the divisor.
+-- divisor, plus a remainder, with restoring one below the divisor.
 use Rattle.std.specs.Prelude.{ℕ, ◌≡◌, ◌<◌, ◌≤◌, ℤ, Bool, true, false, take, All, unsigned_abs}
 use Rattle.opgen_num.specs.Rounding.{IsQuotient}
 use Rattle.opgen_num.specs.Words.{val, nat}
@@ -9,7 +9,10 @@ use Rattle.opgen_net.specs.Flow.{Inputs, flow}
 use Rattle.opgen_net.specs.Valid.{input_widths}
 use Rattle.opgen_kinds.specs.declared.pair.Pair.{Pair}
 use Rattle.opgen_net.specs.Placed.{number_at}
-use Rattle.opgen_divide.specs.Recipe.{with_magnitudes, numerator, digit_count, keeps, after}
+use Rattle.opgen_ports.specs.declared.recipes.Recurrence.{Recurrence}
+use Rattle.opgen_ports.specs.declared.recipes.Recurrence.TheVariants.{Restoring, Nonrestoring}
+use Rattle.opgen_nonrestoring.specs.Steps as nonrestoring
+use Rattle.opgen_divide.specs.Recipe.{with_magnitudes, numerator, digit_count, keeps, after, divisor_node}
 
 -- n is q times b and r, or, where r is not kept, some other rest
 abbrev pub IsDivided : (keep : Bool) → (n b q r : ℕ) → Type 0
@@ -23,10 +26,14 @@ HoldsAfter p net k inputs t =
     let b = nat (flow net.nodes inputs (with_magnitudes p).divisor t) in
     0 < b → IsDivided (keeps p k) (number (take k (numerator p))) b (number (after p k).digits) (number (after p k).rest)
 
--- after each step, at every time and for all inputs
-abbrev pub HoldsAfterEachStep : Pair → Net → Type 0
-HoldsAfterEachStep p net =
+-- after each step, at every time and for all inputs, by the recurrence
+abbrev pub HoldsByRecurrence : Recurrence → Pair → Net → Type 0
+HoldsByRecurrence Restoring p net =
     (k : ℕ) → k ≤ digit_count p → (inputs : Inputs) (t : ℤ) → All (AreWords (input_widths net)) inputs → HoldsAfter p net k inputs t
+HoldsByRecurrence Nonrestoring p net = nonrestoring.HoldsAfterEachStep (numerator p) (divisor_node p) (with_magnitudes p).net net
+
+abbrev pub HoldsAfterEachStep : Pair → Net → Type 0
+HoldsAfterEachStep p net = HoldsByRecurrence p.recurrence p net
 
 -- at every time and for all inputs, what is divided are the sizes of the inputs: their absolute values, or they themselves
 abbrev pub DividesSizes : Pair → Net → Type 0

@@ -1,36 +1,41 @@
 //! The net of a quotient: one digit for each bit of the numerator, from the highest, signed inputs by their absolute
-//! values (de Dinechin and Kumm, Application-Specific Arithmetic: restoring division).
+//! values (de Dinechin and Kumm, Application-Specific Arithmetic, on restoring division, and Ercegovac and Lang, Division
+//! and Square Root, on division without restoring).
 //!
 //! Proved: For every pair that a version accepts, the net is that of the recipe. At every time and for all inputs the
 //! numbers that are divided are the absolute values of the inputs. After each step, if the divisor is not 0, the
-//! numerator so far is the quotient so far times the divisor plus a rest below the divisor. A node that has a sign taken
-//! off or put to it has the absolute value, or the number or its opposite. The net fits the operator.
+//! numerator so far is the quotient so far times the divisor plus a rest: one below the divisor, or without restoring
+//! one of at most the divisor in size. A node that has a sign taken off or put to it has the absolute value, or the
+//! number or its opposite. The net fits the operator.
 //!
 //! By: `build`; of the crate's own calls `absolute_of`, `with_sign`.
 #![tactic(auto)]
 
+mod restoring;
 mod results;
 mod sign;
+#[cfg(test)]
+mod tests;
 
-ghost use Rattle.std.specs.Prelude.{◌≡◌, ◌+◌, ◌≤◌, [], ◌∷◌, ◌++◌, All, IfOk, OnOk, length, slice_index};
-ghost use Rattle.opgen_num.specs.declared.format.TheConstants.{MAX_WIDTH};
-ghost use Rattle.opgen_net.specs.declared.word_bits.WordBit.TheVariants.{Zero};
-ghost use Rattle.opgen_net.specs.Valid.{IsValid, widths};
-ghost use Rattle.opgen_net.specs.WordRule.{IsThere};
+ghost use Rattle.std.specs.Prelude.{◌≡◌, IfOk, OnOk};
+ghost use Rattle.opgen_net.specs.Valid.{IsValid};
 ghost use Rattle.opgen_operator.specs.declared.operator.Operator.TheVariants.{Divide};
 ghost use Rattle.opgen_operator.specs.Fits.{FitsInEachMode};
 ghost use Rattle.opgen_kinds.specs.Pair.{IsAcceptedPair};
 ghost use Rattle.opgen_digits.specs.Digit.{known_in};
-ghost use Rattle.opgen_divide.specs.Recipe.{with_inputs, with_magnitudes, numerator as numerator_of, digit_count, with_divisor, stepped, after, net_of_pair};
+ghost use Rattle.opgen_divide.specs.Recipe.{with_inputs, with_magnitudes, numerator as numerator_of, divided_sizes, net_of_pair};
 ghost use Rattle.opgen_divide.specs.Steps.{DividesSizes, HoldsAfterEachStep};
 
+use crate::restoring::{divide, divisor};
 use crate::results::with_signs;
 use crate::sign::absolute_of;
-use opgen_digits::{Digits, Trial, output_results, push_all, try_digit};
+use opgen_digits::{Digits, output_results};
 use opgen_list::Items;
 use opgen_net::{Net, WordBit, push_bits, push_zeros};
+use opgen_nonrestoring::Divisor;
 use opgen_num::Memory;
 use opgen_operator::Pair;
+use opgen_ports::Recurrence;
 use std::alloc::{AllocError, Global};
 
 // The net of the two inputs.
@@ -85,113 +90,46 @@ fn numerator(alloc: Global, pair: &Pair, dividend: usize) -> Result<Items<WordBi
     Ok(bits)
 }
 
-// The divisor with two zeros above it.
-fn divisor(alloc: Global, pair: &Pair, divisor: usize, net: &mut Net) -> Result<usize, Memory>
-    requires pair { IsAcceptedPair pair.now }
-    requires divisor { divisor ≡ (with_magnitudes pair.now).divisor }
-    requires net { net.old ≡ (with_magnitudes pair.now).net }
-    requires valid { IsValid net.old }
-    ensures ok { OnOk result (net.new ≡ (with_divisor pair.now).net) }
-    ensures place { IfOk result (λ n. n ≡ (with_divisor pair.now).place) }
-    ensures valid { IsValid net.new }
-{
-    let mut bits = Items::new(alloc);
-    push_zeros(&mut bits, 2)?;
-    push_bits(&mut bits, divisor, 0, pair.b.width)?;
-    net.word(bits.as_slice())
-}
-
-// What is left, a bit of the numerator below it and a zero above it.
-fn minuend(alloc: Global, rest: &[WordBit], bit: WordBit) -> Result<Items<WordBit>, AllocError>
-    ensures { IfOk result (λ bits. bits ≡ Zero ∷ (rest.now ++ bit ∷ [])) }
-{
-    let mut bits = Items::new(alloc);
-    bits.push(WordBit::Zero)?;
-    push_all(&mut bits, rest)?;
-    bits.push(bit)?;
-    Ok(bits)
-}
-
-// The node of the divisor with two zeros above it, and how many bits the divisor has.
-#[derive(Clone, Copy)]
-struct DivisorNode {
-    node: usize,
-    width: u32,
-}
-
-// One step: the next bit of the numerator.
-fn step(
-    alloc: Global,
-    net: &mut Net,
-    digits: &mut Digits,
-    divisor: DivisorNode,
-    bit: WordBit,
-    keep: bool,
-) -> Result<(), Memory>
-    requires net { IsValid net.old }
-    requires some { 1 ≤ divisor.width }
-    requires few { divisor.width + 2 ≤ MAX_WIDTH }
-    requires rest { length digits.old.rest ≡ divisor.width }
-    requires there { All (IsThere (widths net.old.nodes)) (Zero ∷ (digits.old.rest ++ bit ∷ [])) }
-    requires divisor { slice_index (widths net.old.nodes) divisor.node ≡ divisor.width + 2 }
-    ensures ok { OnOk result (stepped keep divisor.width divisor.node (known_in net.old digits.old) bit
-        ≡ known_in net.new digits.new) }
-    ensures valid { IsValid net.new }
-{
-    let bits = minuend(alloc, digits.rest.as_slice(), bit)?;
-    let minuend = net.word(bits.as_slice())?;
-    let trial = Trial {
-        minuend,
-        subtrahend: divisor.node,
-        rest: divisor.width,
-    };
-    try_digit(alloc, net, digits, trial, keep)
-}
-
-// Divides: as many steps as the numerator has bits.
-fn divide(
+// The quotient and the remainder of the numbers without their signs, by the recurrence that is asked for.
+fn divide_sizes(
     alloc: Global,
     pair: &Pair,
-    divisor: usize,
-    numerator: &[WordBit],
+    magnitudes: Magnitudes,
     net: &mut Net,
 ) -> Result<Digits, Memory>
     requires pair { IsAcceptedPair pair.now }
-    requires net { net.old ≡ (with_divisor pair.now).net }
-    requires divisor { divisor ≡ (with_divisor pair.now).place }
-    requires numerator { numerator.now ≡ numerator_of pair.now }
-    ensures ok { IfOk result (λ d. after pair.now (digit_count pair.now) ≡ known_in net.new d) }
+    requires net { net.old ≡ (with_magnitudes pair.now).net }
+    requires dividend { magnitudes.dividend ≡ (with_magnitudes pair.now).dividend }
+    requires divisor { magnitudes.divisor ≡ (with_magnitudes pair.now).divisor }
+    requires valid { IsValid net.old }
+    ensures ok { IfOk result (λ d. divided_sizes pair.now ≡ known_in net.new d) }
     ensures valid { IfOk result (λ d. IsValid net.new) }
 {
-    let mut digits = Digits {
-        known: Items::new(alloc),
-        rest: Items::new(alloc),
-    };
-    push_zeros(&mut digits.rest, pair.b.width)?;
-    'steps: for k in 0..numerator.len() {
-        let keep = pair.exact || k + 1 < numerator.len();
-        step(
-            alloc,
-            net,
-            &mut digits,
-            DivisorNode {
-                node: divisor,
+    let numerator = numerator(alloc, pair, magnitudes.dividend)?;
+    let bits = numerator.as_slice();
+    match pair.recurrence {
+        Recurrence::Restoring => {
+            let divisor = divisor(alloc, pair, magnitudes.divisor, net)?;
+            divide(alloc, pair, divisor, bits, net)
+        }
+        Recurrence::Nonrestoring => {
+            let divisor = Divisor {
+                node: magnitudes.divisor,
                 width: pair.b.width,
-            },
-            numerator[k],
-            keep,
-        )?;
+            };
+            opgen_nonrestoring::divide(alloc, net, bits, divisor, pair.exact)
+        }
     }
-    Ok(digits)
 }
 
 /// The net of a quotient `q` of the inputs `a` and `b`, and where it is exact of the remainder `r`.
 ///
 /// The digits of `q` are made from the highest down. For each one the divisor is taken off what the
-/// digits before have left, with the next bit of the numerator below it, and is put back where that
-/// was too much. Of signed inputs the absolute values are divided, so that the quotient is rounded
-/// towards 0; it gets the opposite sign if exactly one input is below 0, and the remainder if the
-/// dividend is. A cycle in which `b` is 0 has some quotient, and changes no other cycle.
+/// digits before have left, with the next bit of the numerator below it. Where that was too much,
+/// the divisor is put back, or without restoring added in the next step in place of taken off. Of
+/// signed inputs the absolute values are divided, so that the quotient is rounded towards 0; it gets
+/// the opposite sign if exactly one input is below 0, and the remainder if the dividend is. A cycle
+/// in which `b` is 0 has some quotient, and changes no other cycle.
 pub fn build(alloc: Global, pair: &Pair) -> Result<Net, Memory>
     requires { IsAcceptedPair pair.now }
     ensures net { IfOk result (λ net. net ≡ net_of_pair pair.now) }
@@ -201,9 +139,7 @@ pub fn build(alloc: Global, pair: &Pair) -> Result<Net, Memory>
 {
     let mut net = inputs(alloc, pair)?;
     let magnitudes = without_signs(alloc, pair, &mut net)?;
-    let divisor = divisor(alloc, pair, magnitudes.divisor, &mut net)?;
-    let numerator = numerator(alloc, pair, magnitudes.dividend)?;
-    let digits = divide(alloc, pair, divisor, numerator.as_slice(), &mut net)?;
+    let digits = divide_sizes(alloc, pair, magnitudes, &mut net)?;
     let results = with_signs(alloc, pair, &mut net, digits)?;
     output_results(&mut net, "q", &results, pair.exact)?;
     Ok(net)

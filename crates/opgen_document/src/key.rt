@@ -12,7 +12,7 @@ pub enum Version {
     First,
     Second,
     Third,
-    /// No document of it is accepted yet.
+    /// A document of it is rejected if its circuit is of a sort that is not made yet.
     Fourth,
 }
 

@@ -4,7 +4,7 @@ ghost use Rattle.std.specs.Option.{option_map};
 ghost use Rattle.opgen_ports.specs.Modes.{mode_of_exact};
 ghost use Rattle.opgen_ports.specs.Meaning.{IsCycleJudged, IsNonzeroAt};
 ghost use Rattle.opgen_ports.specs.Profile.{IsProfileOf};
-ghost use Rattle.opgen_kinds.specs.Pair.{quotient_format, remainder_format, sign_bit, over, exact_quotient, quotient_value, IsTruncated, IsPair, IsBuiltPair, IsAcceptedPair, pair_shift, IsGoodQuotient, quotient_ports, pair_meaning, pair_acceptance};
+ghost use Rattle.opgen_kinds.specs.Pair.{quotient_format, remainder_format, sign_bit, over, exact_quotient, quotient_value, IsTruncated, IsPair, IsPairIn, IsAcceptedPair, pair_shift, IsGoodQuotient, quotient_ports, pair_meaning, pair_acceptance};
 ghost use Rattle.opgen_ports.specs.Ports.{recent_numbers, output_numbers, IsHistory, IsCycle, two_inputs};
 ghost use Rattle.opgen_ports.specs.Ranges.{IsNear};
 ghost use Rattle.opgen_ports.specs.Spans.{IsOf};
@@ -65,21 +65,13 @@ impl Pair {
             && is_input(self.b)
             && self.a.signed == self.b.signed
             && are_lowest_bits_near(self)
-            && self.is_built()
-    }
-
-    // Whether a net of a quotient with these fields is built yet.
-    fn is_built(&self) -> bool
-        ensures { IsTrue result ↔ IsBuiltPair self.now }
-    {
-        self.recurrence.is_restoring()
     }
 
     /// Whether a version of specifications has the operator with these fields.
     pub fn is_in(&self, version: u32) -> bool
-        ensures { IsTrue result ↔ (pair_acceptance self.now).IsIn version }
+        ensures { IsTrue result ↔ IsPairIn version self.now }
     {
-        version >= 3 || !self.a.signed
+        (version >= 3 || !self.a.signed) && (version >= 4 || self.recurrence.is_restoring())
     }
 
     /// What is said of the operator by numbers and marks alone.

@@ -23,12 +23,11 @@ use Rattle.opgen_ports.specs.Ports.{recent_numbers, port}
 use Rattle.opgen_read.specs.Answer.{IsWithinLimits}
 use Rattle.opgen_runs.specs.Rows.{IsRunOf, rows_words}
 use Rattle.opgen_schedule.specs.Stage.{slot_at}
-use Rattle.opgen_pipe.specs.Planned.{slots_of}
 use Rattle.opgen_target.specs.Delays.{Delays}
 use Rattle.opgen_top.specs.declared.line.Line.TheVariants as printed
 use Rattle.opgen_top.specs.Answer.{Answer, success}
 use Rattle.opgen_top.specs.Check.{IsAnswerToVhdl, IsVerdictOnVhdl}
-use Rattle.opgen_top.specs.Circuit.{CircuitsServe, IsCircuit, signals_of}
+use Rattle.opgen_top.specs.Circuit.{CircuitsServe, IsCircuit, signals_of, slots_for}
 use Rattle.opgen_operator.specs.Serves.{Serves}
 use Rattle.opgen_top.specs.Simulate.{GivesDesign}
 use Rattle.opgen_top.proofs.Planning.{circuit_sound, circuit_spells}
@@ -81,8 +80,8 @@ module _ (spec : Spec) (valid : IsValidSpec spec) (table : Delays) (planned : Pl
       let os = map (port_of Out) (outputs_of spec) in
       record {
         signals =
-            let count : length d.signals ≡ signals_of table spec.period circuit.net =
-            ap (λ x. length x.signals) circuit.plan.design ∙ length-signals circuit.net (slot_at (slots_of table spec.period circuit.net)) in
+            let count : length d.signals ≡ signals_of spec table circuit.net =
+            ap (λ x. length x.signals) circuit.plan.design ∙ length-signals circuit.net (slot_at (slots_for spec table circuit.net)) in
             omega (arith, count, circuit.few_signals);
         ports = omega (
           arith,

@@ -24,7 +24,7 @@ use Rattle.opgen_workload.proofs.Counting.{one_count}
 use Rattle.opgen_workload.proofs.Valid.{workload_valid}
 use Rattle.opgen_top.specs.declared.line.Line.TheVariants as printed
 use Rattle.opgen_top.specs.Answer.{Answer, file, refusal, success}
-use Rattle.opgen_top.specs.Circuit.{IsCircuit, signals_of}
+use Rattle.opgen_top.specs.Circuit.{IsCircuit, need_of, signals_of}
 use Rattle.opgen_top.specs.Check.{IsAnswerToCheck, IsAnswerToVhdl}
 use Rattle.opgen_top.specs.Due.{IsAnswerOf, most_bytes, most_simulated_bytes, OnFetch}
 use Rattle.opgen_top.specs.Lines.{vectors_name}
@@ -36,7 +36,7 @@ use Rattle.opgen_top.specs.Workload.{IsWorked, RunsGood, workload_cells}
 use Rattle.opgen_top.specs.Workload.{cycles as workload_cycles}
 use Rattle.opgen_laws.proofs.ByKind.{OneOfEach}
 use Rattle.opgen_laws.proofs.CommandRanges.{ranges}
-use Rattle.opgen_laws.proofs.OneCircuit.{one_circuit, one_net}
+use Rattle.opgen_laws.proofs.OneCircuit.{one_circuit, one_net, one_net_for}
 use Rattle.opgen_runs.proofs.Rows.{one_outputs}
 use Rattle.opgen_laws.proofs.OneChecked.{one_to_vhdl}
 use Rattle.opgen_laws.proofs.OneSimulated.{one_text, one_simulated}
@@ -78,24 +78,25 @@ module _ (each : OneOfEach) (spec : Spec) (table : Delays) where
   one_short : (a b : Answer) → IsTooShort spec table a → IsTooShort spec table b → a ≡ b
   one_short a b h k =
       h.answer
-      ∙ ap (λ n. refusal (printed.PeriodTooShort (need table n))) (one_net each spec h.net k.net h.of_spec k.of_spec)
+      ∙ ap (λ n. refusal (printed.PeriodTooShort (need_of spec table n)))
+      (one_net each spec h.of_spec.own k.of_spec.own h.of_spec.is_own k.of_spec.is_own)
       ∙ sym k.answer
 
   not_short_large : (a b : Answer) → IsTooShort spec table a → IsTooLarge spec table b → ⊥
   not_short_large a b h k =
-      let same = ap (need table) (one_net each spec h.net k.net h.of_spec k.of_spec) in
+      let same = ap (need table) (one_net_for each spec table h.net k.net h.of_spec k.of_spec) in
       let short = h.short in
       let long = k.long_enough in omega (arith, same, short, long)
 
   not_short_circuit : (a : Answer) → IsTooShort spec table a → Has spec table → ⊥
   not_short_circuit a h (enable, planned, adders, c) =
-      let same = ap (need table) (one_net each spec h.net c.net h.of_spec c.of_spec) in
+      let same = ap (need table) (one_net_for each spec table h.net c.net h.of_spec c.of_spec) in
       let short = h.short in
       let long = c.long_enough in omega (arith, same, short, long)
 
   not_large_circuit : (a : Answer) → IsTooLarge spec table a → Has spec table → ⊥
   not_large_circuit a h (enable, planned, adders, c) =
-      let same = ap (signals_of table spec.period) (one_net each spec h.net c.net h.of_spec c.of_spec) in
+      let same = ap (signals_of spec table) (one_net_for each spec table h.net c.net h.of_spec c.of_spec) in
       let many = h.many_signals in
       let few = c.few_signals in omega (arith, same, many, few)
 

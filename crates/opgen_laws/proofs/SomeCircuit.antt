@@ -19,7 +19,6 @@ use Rattle.opgen_pipe.specs.declared.planning.Planned.{Planned}
 use Rattle.opgen_pipe.specs.Cells.{design_cells, need}
 use Rattle.opgen_pipe.specs.Copies.{net_latency}
 use Rattle.opgen_pipe.specs.Pipelined.{design_of}
-use Rattle.opgen_pipe.specs.Planned.{slots_of}
 use Rattle.opgen_schedule.specs.Schedule.{greatest_time}
 use Rattle.opgen_schedule.specs.Stage.{slot_at}
 use Rattle.opgen_spec.specs.declared.fault.SpecFault.{SpecFault}
@@ -36,7 +35,7 @@ use Rattle.opgen_workload.specs.Judged.{Counts, IsGoodCycle}
 use Rattle.opgen_workload.proofs.Valid.{workload_valid}
 use Rattle.opgen_top.specs.declared.line.Line.TheVariants as printed
 use Rattle.opgen_top.specs.Answer.{Answer, file, refusal, success}
-use Rattle.opgen_top.specs.Circuit.{IsCircuit, signals_of}
+use Rattle.opgen_top.specs.Circuit.{IsCircuit, IsNetFor, made_net, need_of, signals_of, slots_for}
 use Rattle.opgen_operator.specs.Serves.{Serves}
 use Rattle.opgen_top.specs.Kinds.{AreAddersOf, IsNetOf}
 use Rattle.opgen_runs.specs.Rows.{IsRunOf, output_cells, rows_words}
@@ -56,26 +55,26 @@ some_net laws spec valid found = of_kind laws spec valid found spec.op refl
 -- ---- the circuit, or a refusal by the table
 abbrev plan_for : (spec : Spec) (enable : Bool) (net : Net) (table : Delays) → Planned
 plan_for spec enable net table = record {
-  design = design_of spec.name enable net (slot_at (slots_of table spec.period net));
-  latency = net_latency net (slot_at (slots_of table spec.period net));
-  slack = spec.period - setup table - greatest_time (slots_of table spec.period net);
-  cells = map (width_sum (design_cells net (slot_at (slots_of table spec.period net)))) classes;
+  design = design_of spec.name enable net (slot_at (slots_for spec table net));
+  latency = net_latency net (slot_at (slots_for spec table net));
+  slack = spec.period - setup table - greatest_time (slots_for spec table net);
+  cells = map (width_sum (design_cells net (slot_at (slots_for spec table net)))) classes;
 }
 
 module _ (laws : NetLaws) (spec : Spec) (valid : IsValidSpec spec) (table : Delays) (enable : Bool) (said : Answer → Type 0)
     (made : (planned : Planned) (adders : List ℕ) → IsCircuit spec table enable planned adders → ((a : Answer) → said a → ⊥) → ⊥)
     (found : (a : Answer) → OnTable spec table a (said a) → ⊥) where
-  on_net : (net : Net) (adders : List ℕ) → IsNetOf spec net → AreAddersOf spec adders → ⊥
+  on_net : (net : Net) (adders : List ℕ) → IsNetFor spec table net → AreAddersOf spec adders → ⊥
   on_net net adders of_spec are =
       ⊎_elim
       (λ (short : spec.period < need table net).
-      found (refusal (printed.PeriodTooShort (need table net)))
+      found (refusal (printed.PeriodTooShort (need_of spec table of_spec.own)))
       (inl (record { net = net; of_spec = of_spec; short = short; answer = refl })))
       (λ (long : need table net ≤ spec.period). ⊎_elim
-      (λ (many : MAX_SIGNALS < signals_of table spec.period net).
+      (λ (many : MAX_SIGNALS < signals_of spec table net).
       found (refusal printed.TooLarge)
       (inr (inl (record { net = net; of_spec = of_spec; long_enough = long; many_signals = many; answer = refl }))))
-      (λ (few : signals_of table spec.period net ≤ MAX_SIGNALS).
+      (λ (few : signals_of spec table net ≤ MAX_SIGNALS).
       made (plan_for spec enable net table) adders (record {
         net = net;
         of_spec = of_spec;
@@ -84,11 +83,12 @@ module _ (laws : NetLaws) (spec : Spec) (valid : IsValidSpec spec) (table : Dela
         few_signals = few;
         plan = record { design = refl; latency = refl; slack = refl; cells = refl };
       }) (λ a h. found a (inr (inr h))))
-      (cases_lt MAX_SIGNALS (signals_of table spec.period net)))
+      (cases_lt MAX_SIGNALS (signals_of spec table net)))
       (cases_lt spec.period (need table net))
 
   some_table : ⊥
-  some_table = some_net laws spec valid on_net
+  some_table = some_net laws spec valid (λ own adders of_own. on_net (made_net spec table own) adders
+      (record { own = own; is_own = of_own; made = refl }))
 
 -- ---- the run of a circuit
 some_run : (spec : Spec) → IsValidSpec spec → (latency : ℕ) (d : Design) → Serves spec latency false d → (seed count : ℕ)

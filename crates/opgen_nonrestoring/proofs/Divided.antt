@@ -11,14 +11,14 @@ use Rattle.opgen_design.specs.Value.{IsWidth}
 use Rattle.opgen_net.specs.declared.net.Net.{Net}
 use Rattle.opgen_net.specs.declared.word_bits.WordBit.{WordBit}
 use Rattle.opgen_net.specs.declared.word_bits.WordBit.TheVariants.{Zero, Of}
-use Rattle.opgen_net.specs.Flow.{Inputs, flow}
+use Rattle.opgen_net.specs.Flow.{Inputs, flow, KeepsFlow}
 use Rattle.opgen_net.specs.Placed.{number_at}
 use Rattle.opgen_net.specs.Valid.{widths, input_widths, IsValid}
 use Rattle.opgen_net.specs.WordRule.{IsThere, bit_flow}
 use Rattle.opgen_net.proofs.BitLists.{bit-kept, length-bits_from}
 use Rattle.opgen_net.proofs.FlowWidths.{flow-width}
-use Rattle.opgen_net.proofs.Grown.{grown-flow, grown-all_there}
-use Rattle.opgen_net.proofs.Later.{Later, later-then, later-same, words-later}
+use Rattle.opgen_net.proofs.Grown.{grown-keeps, grown-all_there}
+use Rattle.opgen_net.proofs.Later.{Later, later-then, later-same, node_there, words-later}
 use Rattle.opgen_net.proofs.Numbers.{number-kept}
 use Rattle.opgen_digits.specs.Digit.{Known}
 use Rattle.opgen_digits.specs.Results.{AreResults}
@@ -98,26 +98,31 @@ module _ (numerator : List WordBit) (v : Divisor) (net : Net) (valid : IsValid n
     rest = All-nil (IsThere (widths done.net.nodes));
   }
 
-  -- at a time, in the net at the end
-  module _ (exact : Bool) (inputs : Inputs) (t : ℤ) (words : All (AreWords (input_widths (known exact).net)) inputs) where
-    abbrev final : Net
-    final = (known exact).net
+  pub done-count : (exact : Bool) → length (known exact).digits ≡ count
+  done-count true = all.count
+  done-count false = all.count
 
-    words_first : All (AreWords (input_widths net)) inputs
-    words_first = subst (λ is. All (AreWords (map (λ (i : List ℕ × ℕ). i.1) is)) inputs) (done-later exact).grown.inputs words
+  pub done-rest : length (known true).rest ≡ w
+  done-rest = length-bits_from (end.r v done all.later.valid divisor-done all.ready) 0 w
+
+  -- at a time, in a net that keeps the words of the nodes
+  module _ (exact : Bool) (final : Net) (keeps : KeepsFlow (known exact).net.nodes final.nodes) (inputs : Inputs) (t : ℤ)
+      (words : All (AreWords (input_widths net)) inputs) where
+    first-keeps : KeepsFlow net.nodes final.nodes
+    first-keeps = grown-keeps net (known exact).net (done-later exact).grown final.nodes keeps
 
     number-same : (taken : List WordBit) → All (IsThere (widths net.nodes)) taken
         → number_at net.nodes inputs t taken ≡ number_at final.nodes inputs t taken
-    number-same taken h = sym (number-kept net.nodes final.nodes (grown-flow net final (done-later exact).grown) inputs t taken h)
+    number-same taken h = sym (number-kept net.nodes final.nodes first-keeps inputs t taken h)
 
     abbrev b : ℕ
     b = nat (flow net.nodes inputs v.node t)
 
     divisor-same : b ≡ nat (flow final.nodes inputs v.node t)
-    divisor-same = ap nat (sym (kept-flow net final (done-later exact) v.node w is.some is.wide inputs t))
+    divisor-same = ap nat (sym (first-keeps inputs v.node t (node_there net v.node w is.some is.wide)))
 
     small : b ≤ 2 ^ w
-    small = omega (arith, divisor-below numerator v net valid is there inputs t words_first)
+    small = omega (arith, divisor-below numerator v net valid is there inputs t words)
 
     -- after each step
     module _ (k : ℕ) (within : k ≤ count) where
@@ -128,29 +133,32 @@ module _ (numerator : List WordBit) (v : Divisor) (net : Net) (valid : IsValid n
       stand = stands numerator v net valid is there k within
 
       -- the net after the step grows into the last one
-      step-later : Later d.net final
+      step-later : Later d.net (known exact).net
       step-later =
           let j = count - k in
           let e : k + j ≡ count = omega (arith, within) in
           let one =
           subst (λ m. Later d.net (after numerator v net m).net) e (later-by numerator v net valid is there k j (omega (arith, e))) in
-          later-then d.net done.net final one (end-later exact)
+          later-then d.net done.net (known exact).net one (end-later exact)
+
+      step-keeps : KeepsFlow d.net.nodes final.nodes
+      step-keeps = grown-keeps d.net (known exact).net step-later.grown final.nodes keeps
 
       taken-there : All (IsThere (widths net.nodes)) (take k numerator)
       taken-there = All-take (IsThere (widths net.nodes)) k numerator there
 
       bit-same : (node : ℕ) → slice_index (widths d.net.nodes) node ≡ 1
           → bit_flow d.net.nodes inputs t (Of node 0) ≡ bit_flow final.nodes inputs t (Of node 0)
-      bit-same node h = ap (λ x. slice_index_or x 0 false) (sym (kept-flow d.net final step-later node 1 (omega arith) h inputs t))
+      bit-same node h = ap (λ x. slice_index_or x 0 false) (sym (step-keeps inputs node t (node_there d.net node 1 (omega arith) h)))
 
       digits-same : number_at d.net.nodes inputs t d.digits ≡ number_at final.nodes inputs t d.digits
-      digits-same = sym (number-kept d.net.nodes final.nodes (grown-flow d.net final step-later.grown) inputs t d.digits stand.digits)
+      digits-same = sym (number-kept d.net.nodes final.nodes step-keeps inputs t d.digits stand.digits)
 
       partial-is : partial_at net inputs t numerator v k ≡ partial_at final inputs t numerator v k
       partial-is =
           partial-same b (λ i. bit_flow net.nodes inputs t (slice_index_or numerator i Zero))
           (λ i. bit_flow final.nodes inputs t (slice_index_or numerator i Zero)) k (
-          λ i l. sym (bit-kept net.nodes final.nodes (grown-flow net final (done-later exact).grown) inputs t
+          λ i l. sym (bit-kept net.nodes final.nodes first-keeps inputs t
           (slice_index_or numerator i Zero) (there i Zero (omega (arith, l, within))))
           )
           ∙ ap (λ c. partial_after c (λ i. bit_flow final.nodes inputs t (slice_index_or numerator i Zero)) k) divisor-same
@@ -158,18 +166,18 @@ module _ (numerator : List WordBit) (v : Divisor) (net : Net) (valid : IsValid n
       pub step-holds : 0 < nat (flow final.nodes inputs v.node t)
           → HoldsStep final inputs t (take k numerator) v d (partial_at final inputs t numerator v k)
       step-holds some =
-          let h = stand.right inputs t words_first (omega (arith, some, divisor-same)) in
+          let h = stand.right inputs t words (omega (arith, some, divisor-same)) in
           let old = partial_at net inputs t numerator v k in
           let q = number_at d.net.nodes inputs t d.digits in
           let s = flow d.net.nodes inputs d.sum t in
           let before = bit_flow d.net.nodes inputs t (Of d.before 0) in
           let last = bit_flow d.net.nodes inputs t (Of d.last 0) in
           let long : length s ≡ w + 1 =
-          flow-width d.net stand.later.valid inputs (words-later net d.net stand.later inputs words_first) d.sum t ∙ stand.ready.sum in
+          flow-width d.net stand.later.valid inputs (words-later net d.net stand.later inputs words) d.sum t ∙ stand.ready.sum in
           let twice : 2 ^ length s ≡ 2 ^ w + 2 ^ w = ap (λ m. 2 ^ m) long ∙ double numerator v net valid is there in
           let sum : IsSum before last (2 ^ length s) b h.rest (nat s) = subst (λ m. IsSum before last (2 ^ m) b h.rest (nat s)) (sym long) h.sum in
           let same_sum : s ≡ flow final.nodes inputs d.sum t =
-          sym (kept-flow d.net final step-later d.sum (w + 1) (omega arith) stand.ready.sum inputs t) in
+          sym (step-keeps inputs d.sum t (node_there d.net d.sum (w + 1) (omega arith) stand.ready.sum)) in
           record {
             invariant =
                 same-invariant (number_at net.nodes inputs t (take k numerator)) (number_at final.nodes inputs t (take k numerator)) b
@@ -237,31 +245,45 @@ module _ (numerator : List WordBit) (v : Divisor) (net : Net) (valid : IsValid n
         (end.added-one v done all.later.valid divisor-done all.ready inputs t now last last-is)
         (λ e. end.added-zero v done all.later.valid divisor-done all.ready inputs t now last last-is e ∙ kept) o.1
 
+  words_before : (made : Net) → made.inputs ≡ net.inputs → (inputs : Inputs) → All (AreWords (input_widths made)) inputs
+      → All (AreWords (input_widths net)) inputs
+  words_before made same inputs words = subst (λ is. All (AreWords (map (λ (i : List ℕ × ℕ). i.1) is)) inputs) same words
+
+  -- the steps hold in every net of the same inputs that keeps the words of the nodes
+  pub steps-hold_in : (exact : Bool) (made : Net) → KeepsFlow (known exact).net.nodes made.nodes → made.inputs ≡ net.inputs
+      → HoldsAfterEachStep numerator v net made
+  steps-hold_in exact made keeps same k within inputs t words some =
+      step-holds exact made keeps inputs t (words_before made same inputs words) k within some
+
+  still : (exact : Bool) → KeepsFlow (known exact).net.nodes (known exact).net.nodes
+  still exact inputs n t h = refl
+
   pub steps-hold : (exact : Bool) → HoldsAfterEachStep numerator v net (known exact).net
-  steps-hold exact k within inputs t words some = step-holds exact inputs t words k within some
+  steps-hold exact = steps-hold_in exact (known exact).net (still exact) (done-later exact).grown.inputs
 
   pub has_quotient : (exact : Bool) → HasQuotient exact numerator v (known exact)
   has_quotient exact inputs t words some =
-      let first = words_first exact inputs t words in
-      let above : 0 < nat (flow net.nodes inputs v.node t) = omega (arith, some, divisor-same exact inputs t words) in
+      let first = words_before (known exact).net (done-later exact).grown.inputs inputs words in
+      let same = divisor-same exact (known exact).net (still exact) inputs t first in
+      let above : 0 < nat (flow net.nodes inputs v.node t) = omega (arith, some, same) in
       let h = holds inputs t first above in
       let whole : number_at net.nodes inputs t (take count numerator) ≡ number_at (known exact).net.nodes inputs t numerator =
-      ap (number_at net.nodes inputs t) (take-length numerator) ∙ number-same exact inputs t words numerator there in
+      ap (number_at net.nodes inputs t) (take-length numerator) ∙ number-same exact (known exact).net (still exact) inputs t first numerator there in
       let found =
       subst (λ m. IsQuotient m (nat (flow net.nodes inputs v.node t)) (number_at done.net.nodes inputs t done.digits) h.rest) whole h.quotient in
       let divided_by =
       subst (λ m. IsQuotient (number_at (known exact).net.nodes inputs t numerator) m (number_at done.net.nodes inputs t done.digits) h.rest)
-      (divisor-same exact inputs t words) found in
+      same found in
       quotient-of exact (number_at (known exact).net.nodes inputs t numerator) (nat (flow (known exact).net.nodes inputs v.node t))
       (number_at (known exact).net.nodes inputs t (known exact).digits) h.rest (number_at (known exact).net.nodes inputs t (known exact).rest)
       (subst (λ m. IsQuotient (number_at (known exact).net.nodes inputs t numerator) (nat (flow (known exact).net.nodes inputs v.node t)) m h.rest)
-      (digits exact inputs t words) divided_by)
+      (digits exact inputs t first) divided_by)
       (rest exact inputs t first above)
     where
-      digits : (exact : Bool) (inputs : Inputs) (t : ℤ) (words : All (AreWords (input_widths (known exact).net)) inputs)
+      digits : (exact : Bool) (inputs : Inputs) (t : ℤ) (first : All (AreWords (input_widths net)) inputs)
           → number_at done.net.nodes inputs t done.digits ≡ number_at (known exact).net.nodes inputs t (known exact).digits
-      digits true inputs t words = digits-same true inputs t words count (omega arith)
-      digits false inputs t words = refl
+      digits true inputs t first = digits-same true (known true).net (still true) inputs t first count (omega arith)
+      digits false inputs t first = refl
 
       rest : (exact : Bool) (inputs : Inputs) (t : ℤ) (first : All (AreWords (input_widths net)) inputs)
           (above : 0 < nat (flow net.nodes inputs v.node t)) → exact ≡ true

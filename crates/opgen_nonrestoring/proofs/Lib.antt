@@ -7,4 +7,4 @@ mod Made
 mod Steps
 mod Stands
 mod Finished
-mod Divided
+pub mod Divided

@@ -1,14 +1,20 @@
 -- The kinds with one output whose width may be chosen: its port, its exact value, and when it is good.
-use Rattle.std.proofs.Common.{◌≡◌, Bool, true, false, Some, [], ◌∷◌, sym, ap, subst, ◌∙◌, arith}
-use Rattle.std.specs.Prelude.{ℕ, codes, All}
+use Rattle.std.proofs.Common.{◌≡◌, ◌↔◌, ◌≤◌, ◌==◌, if◌then◌else◌, Bool, true, false, Some, [], ◌∷◌, sym, ap, subst, ◌∙◌, arith}
+use Rattle.std.proofs.lemmas.Bool.{eqb-true, false_from_ne_true}
+use Rattle.std.specs.Prelude.{ℕ, ℤ, codes, All, IsTrue, Option}
+use Rattle.opgen_num.specs.declared.format.Format.{Format}
+use Rattle.opgen_num.specs.declared.format.Ratio.{Ratio}
 use Rattle.opgen_num.specs.declared.format.TheConstants.{MAX_WIDTH}
+use Rattle.opgen_num.specs.declared.mode.Mode.{Mode}
+use Rattle.opgen_num.specs.declared.mode.Overflow.{Overflow}
 use Rattle.opgen_num.specs.Formats.{IsWidthOf}
 use Rattle.opgen_operator.specs.declared.operator.Operator.{Operator}
 use Rattle.opgen_operator.specs.Operator.{operator_outputs, IsAccepted, may_be_cut}
 use Rattle.std.specs.Option.{unwrap_or}
 use Rattle.opgen_operator.specs.declared.spec.Spec.{Spec}
-use Rattle.opgen_operator.specs.Outputs.{outputs_of, chosen, chosen_ports}
+use Rattle.opgen_operator.specs.Outputs.{outputs_of, chosen, chosen_ports, IsGoodCut}
 use Rattle.opgen_operator.specs.Valid.{IsChoice, IsValidSpec}
+use Rattle.opgen_ports.specs.Good.{IsGoodChosen}
 use Rattle.opgen_ports.specs.Limits.{most_signal}
 use Rattle.opgen_ports.proofs.InputPorts.{all_one}
 use Rattle.opgen_operator.proofs.Accepted.{accepted_ranges, accepted_wide}
@@ -22,6 +28,12 @@ plain_width op is h =
     let wide : All (HasWidth MAX_WIDTH) (port (codes "y") (format_at (operator_outputs op) 0) ∷ []) =
     subst (All (HasWidth MAX_WIDTH)) (only_output op h) (accepted_wide op is) in
     (fewest op (accepted_ranges op is) h, (wide 0 (port (codes "y") (format_at (operator_outputs op) 0)) (omega arith)).1)
+
+-- since version 3 signals have 96 bits at most
+late_limit : (version : ℕ) → 3 ≤ version → most_signal version ≡ 96
+late_limit version late =
+    let other : (version == 1) ≡ false = false_from_ne_true (version == 1) (λ e. omega (arith, late, eqb-true version 1 e)) in
+    ap (λ (b : Bool). if b then 64 else 96) other
 
 -- the output of the width that is chosen
 module _ (spec : Spec) (valid : IsValidSpec spec) (width : ℕ) (is : spec.out_width ≡ Some width) where
@@ -48,6 +60,17 @@ module _ (spec : Spec) (valid : IsValidSpec spec) (width : ℕ) (is : spec.out_w
 
   pub chosen_wide : All (HasWidth (most_signal spec.version)) (outputs_of spec)
   chosen_wide =
-      let far : most_signal spec.version ≡ 96 = ap most_signal choice.0 in
+      let far : most_signal spec.version ≡ 96 = late_limit spec.version choice.0 in
       subst (All (HasWidth (most_signal spec.version))) (sym by_choice)
       (all_one (HasWidth (most_signal spec.version)) _ (omega (arith, choice.2), omega (arith, choice.3, far)))
+
+-- what is judged of a value is judged of the same value
+pub cut-along : (b : Bool) (over over' : Overflow) (mode : Mode) (own to : Format) (value : Ratio) (exact : Option Ratio) (y y' : ℤ)
+    → over ≡ over' → Some value ≡ exact → y ≡ y' → (IsTrue b ↔ IsGoodChosen over mode own to value.num value.den y)
+    → IsTrue b ↔ IsGoodCut over' mode own to exact y'
+cut-along b over over' mode own to value exact y y' same is out good =
+    let cut : IsTrue b ↔ IsGoodCut over mode own to (Some value) y' =
+    subst (λ out. IsTrue b ↔ IsGoodCut over mode own to (Some value) out) out good in
+    let chosen : IsTrue b ↔ IsGoodCut over' mode own to (Some value) y' =
+    subst (λ over. IsTrue b ↔ IsGoodCut over mode own to (Some value) y') same cut in
+    subst (λ exact. IsTrue b ↔ IsGoodCut over' mode own to exact y') is chosen

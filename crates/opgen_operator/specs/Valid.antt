@@ -1,11 +1,12 @@
 -- Valid specifications: their fields are within the ranges of their keys and the limits of their version.
+use Rattle.std.specs.Option.{is_some}
 use Rattle.std.specs.Prelude.{ℕ, ◌≡◌, ◌≤◌, Bool, true, IsTrue, All, Option, Some, None, length, false}
 use Rattle.opgen_ports.specs.declared.TheConstants.{MAX_TARGET_NAME_LEN}
 use Rattle.opgen_num.specs.declared.format.TheConstants.{MAX_WIDTH}
 use Rattle.opgen_num.specs.declared.mode.Mode.{Mode}
 use Rattle.opgen_num.specs.declared.mode.Rounding.{Rounding}
 use Rattle.opgen_num.specs.declared.mode.Overflow.{Overflow}
-use Rattle.opgen_num.specs.declared.mode.Overflow.TheVariants.{Saturate}
+use Rattle.opgen_num.specs.declared.mode.Overflow.TheVariants.{Saturate, Wrap}
 use Rattle.opgen_operator.specs.declared.operator.Operator.{Operator}
 use Rattle.opgen_operator.specs.declared.spec.DelayLine.{DelayLine}
 use Rattle.opgen_operator.specs.declared.spec.Spec.{Spec}
@@ -24,12 +25,14 @@ AgreesWith mode None = Unit {0}
 abbrev pub AgreesOnExact : Mode → Operator → Type 0
 AgreesOnExact mode op = AgreesWith mode (own_mark op)
 
--- no operator is built yet whose outputs are rounded down or to the nearest, and none whose outputs wrap
+-- no operator is built yet whose outputs are rounded down or to the nearest
 abbrev pub IsBuilt : Mode → Type 0
 IsBuilt mode = IsExactOrFaithful mode
 
-abbrev pub IsBuiltOverflow : Overflow → Type 0
-IsBuiltOverflow overflow = overflow ≡ Saturate
+-- outputs of a chosen width wrap in version 4 alone
+abbrev pub IsOverflow : (version : ℕ) → (width : Option ℕ) → Overflow → Type 0
+IsOverflow version width Saturate = Unit {0}
+IsOverflow version width Wrap = (4 ≤ version) × (is_some width ≡ true)
 
 -- outputs whose rounding is chosen are not asked for exactly
 abbrev pub IsInexactIf : Option Rounding → (exact : Bool) → Type 0
@@ -46,10 +49,10 @@ pub record IsModeOf (mode : Mode) (op : Operator) : Type 0 where
 abbrev pub IsDelayLine : DelayLine → Type 0
 IsDelayLine line = (line.base ≤ 1000000) × (line.per_bit ≤ 10000)
 
--- a width and a sign of the output `y` may be chosen in version 3, of the kinds that have one; no sign is chosen alone
+-- a width and a sign of the output `y` may be chosen since version 3, of the kinds that have one; no sign is chosen alone
 abbrev pub IsChoice : (version : ℕ) → Operator → (width : Option ℕ) (sign : Option Bool) → Type 0
 IsChoice version op None sign = sign ≡ None
-IsChoice version op (Some width) sign = (version ≡ 3) × (may_be_cut op ≡ true) × (2 ≤ width) × (width ≤ MAX_WIDTH)
+IsChoice version op (Some width) sign = (3 ≤ version) × (may_be_cut op ≡ true) × (2 ≤ width) × (width ≤ MAX_WIDTH)
 
 pub record IsValidSpec (spec : Spec) : Type 0 where
   pub version : IsVersion spec.version
@@ -61,7 +64,7 @@ pub record IsValidSpec (spec : Spec) : Type 0 where
   pub rounding : IsInexactIf spec.rounding spec.exact
   pub mode : IsModeOf (mode_of spec) spec.op
   pub output : IsChoice spec.version spec.op spec.out_width spec.out_signed
-  pub overflow : IsBuiltOverflow spec.overflow
+  pub overflow : IsOverflow spec.version spec.out_width spec.overflow
   pub target : (1 ≤ length spec.target) × (length spec.target ≤ MAX_TARGET_NAME_LEN)
   pub period : (1 ≤ spec.period) × (spec.period ≤ 1000000)
   pub few_lines : length spec.delays ≤ 16

@@ -171,7 +171,7 @@ impl Operator {
         self.profile().has_value
     }
 
-    /// Whether the output has a width that may be chosen in version 3: that of the kinds with one output `y`.
+    /// Whether the output has a width that may be chosen: since version 3 that of the kinds with one output `y`.
     pub fn may_be_cut(&self) -> bool
         ensures { result ≡ may_be_cut self.now }
     {

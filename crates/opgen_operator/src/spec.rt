@@ -6,7 +6,7 @@ ghost use Rattle.opgen_operator.specs.Operator.{operator_outputs, plain_output, 
 ghost use Rattle.opgen_operator.specs.Outputs.{inputs_of, outputs_of, mode_of, IsGood, IsGoodCut, IsInRange};
 ghost use Rattle.opgen_ports.specs.Ports.{format_at, port, number_of, recent_numbers, output_numbers, IsHistory, IsCycle};
 ghost use Rattle.opgen_ports.specs.SpecName.{is_spec_name};
-ghost use Rattle.opgen_operator.specs.Valid.{IsBuiltOverflow, IsChoice, IsDelayLine, IsInexactIf, IsModeOf, IsValidSpec};
+ghost use Rattle.opgen_operator.specs.Valid.{IsChoice, IsDelayLine, IsInexactIf, IsModeOf, IsOverflow, IsValidSpec};
 
 use crate::given_names::is_name_in;
 use crate::operator::Operator;
@@ -15,9 +15,9 @@ use opgen_net::Class;
 use opgen_num::{Format, MAX_WIDTH, Memory, Mode, Overflow, Rounding};
 use opgen_ports::history::output;
 use opgen_ports::modes::mode_by;
+use opgen_ports::overflow::{good_saturated, good_wrapped};
 use opgen_ports::ports::{PortFormat, one};
 use opgen_ports::ranges::is_length;
-use opgen_ports::saturated::good_saturated;
 use opgen_ports::{MAX_TARGET_NAME_LEN, is_spec_name, is_version};
 use std::alloc::Global;
 
@@ -88,12 +88,12 @@ impl Spec {
         requires { IsOperator self.now.op }
         ensures { IsTrue result ↔ (IsInexactIf self.now.rounding self.now.exact × IsModeOf (mode_of self.now) self.now.op
             × IsChoice self.now.version self.now.op self.now.out_width self.now.out_signed
-            × IsBuiltOverflow self.now.overflow) }
+            × IsOverflow self.now.version self.now.out_width self.now.overflow) }
     {
         is_inexact_if(self.rounding, self.exact)
             && self.op.has_mode(self.mode())
             && self.is_choice()
-            && is_built_overflow(self.overflow)
+            && self.may_overflow_so()
     }
 
     // Whether the target, the period and the delays are within their ranges.
@@ -131,9 +131,19 @@ impl Spec {
     {
         match self.out_width {
             Some(width) => {
-                self.version == 3 && self.op.may_be_cut() && 2 <= width && width <= MAX_WIDTH
+                self.version >= 3 && self.op.may_be_cut() && 2 <= width && width <= MAX_WIDTH
             }
             None => self.out_signed.is_none(),
+        }
+    }
+
+    // Whether this may become of values out of range.
+    fn may_overflow_so(&self) -> bool
+        ensures { IsTrue result ↔ IsOverflow self.now.version self.now.out_width self.now.overflow }
+    {
+        match self.overflow {
+            Overflow::Saturate => true,
+            Overflow::Wrap => self.version >= 4 && self.out_width.is_some(),
         }
     }
 
@@ -189,26 +199,31 @@ impl Spec {
     {
         match self.cut() {
             Some(cut) => {
-                !self.op.is_in_range(history) || self.is_good_cut(cut.to, history, outputs[0])
+                !self.op.is_in_range(history) || self.is_good_cut(cut, history, outputs[0])
             }
             None => self.op.judge(self.mode(), history, outputs),
         }
     }
 
-    // Whether an output of a chosen format is good for the exact value, brought into the range of the format.
-    fn is_good_cut(&self, to: Format, history: &[u128], y: u128) -> bool
+    // Whether an output of a chosen format is good for the exact value, which may be out of its range.
+    fn is_good_cut(&self, cut: Cut, history: &[u128], y: u128) -> bool
         requires valid { IsValidSpec self.now }
-        requires to { IsWidthOf to.signed to.width }
+        requires from { cut.from ≡ format_at (operator_outputs self.now.op) 0 }
+        requires widths { IsWidthOf cut.from.signed cut.from.width × IsWidthOf cut.to.signed cut.to.width }
         requires history { IsHistory (inputs_of self.now) history.now }
         requires in_range { IsInRange self.now (recent_numbers (inputs_of self.now) history.now) }
-        requires y { y < 2 ^ to.width }
+        requires y { y < 2 ^ cut.to.width }
         ensures { IsTrue result ↔ IsGoodCut self.now.overflow (mode_of self.now)
-            (format_at (operator_outputs self.now.op) 0) to
-            (exact_value self.now.op (recent_numbers (inputs_of self.now) history.now)) (number_of to y) }
+            (format_at (operator_outputs self.now.op) 0) cut.to
+            (exact_value self.now.op (recent_numbers (inputs_of self.now) history.now)) (number_of cut.to y) }
     {
-        match self.op.value(history) {
-            Some(value) => good_saturated(value, to, output(to, y), self.mode()),
-            None => false,
+        let Some(value) = self.op.value(history) else {
+            return false;
+        };
+        let y = output(cut.to, y);
+        match self.overflow {
+            Overflow::Saturate => good_saturated(value, cut.to, y, self.mode()),
+            Overflow::Wrap => good_wrapped(value, cut.from, cut.to, y, self.mode()),
         }
     }
 }
@@ -220,16 +235,6 @@ fn is_inexact_if(rounding: Option<Rounding>, exact: bool) -> bool
     match rounding {
         Some(_) => !exact,
         None => true,
-    }
-}
-
-// Whether outputs are built for which this becomes of values out of range.
-fn is_built_overflow(overflow: Overflow) -> bool
-    ensures { IsTrue result ↔ IsBuiltOverflow overflow }
-{
-    match overflow {
-        Overflow::Saturate => true,
-        Overflow::Wrap => false,
     }
 }
 

@@ -1,6 +1,6 @@
 -- How far back the outputs of a net's design look: the latency, and the delays that its ways pass.
-use Rattle.std.proofs.Common.{◌≡◌, ℕ, zero, suc, ◌+◌, ◌<◌, ◌≤◌, Bool, true, false, List, [], ◌∷◌, length, get_or, map, Some, None, refl, sym, ap, ◌∙◌, subst, arith, inl, inr}
-use Rattle.std.specs.Prelude.{◌⊎◌, max, if◌then◌else◌, All, Contains, slice_get, slice_index}
+use Rattle.std.proofs.Common.{◌≡◌, ℕ, suc, ◌+◌, ◌<◌, ◌≤◌, Bool, true, false, List, [], length, get_or, map, Some, refl, sym, ap, ◌∙◌, arith, inl, inr}
+use Rattle.std.specs.Prelude.{◌⊎◌, max, if◌then◌else◌, All, slice_get, slice_index}
 use Rattle.std.specs.List.{range_with_len}
 use Rattle.std.proofs.lemmas.Bool.{cases_Bool}
 use Rattle.std.proofs.lemmas.List.FromFn.{length-map-range_with_len}
@@ -24,7 +24,7 @@ use Rattle.opgen_schedule.specs.Reads.{reads_of, is_some_constant, is_constant_a
 use Rattle.opgen_schedule.specs.Schedule.{Schedule, Fits}
 use Rattle.opgen_pipe.specs.Copies.{copies, copy_read, copy_read_by, output_nodes, net_latency, signals_before, signal_of}
 use Rattle.opgen_pipe.specs.Laws.{DesignLooksBack}
-use Rattle.opgen_pipe.specs.Pipelined.{all_of, own_driver, copy_register, drivers_of, design_of}
+use Rattle.opgen_pipe.specs.Pipelined.{all_of, own_driver, design_of}
 use Rattle.opgen_pipe.specs.Reading.{read_in, slice_in}
 use Rattle.opgen_pipe.specs.Standings.{standing_of, standings}
 use Rattle.opgen_pipe.proofs.Blocks.{block}

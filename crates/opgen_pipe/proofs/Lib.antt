@@ -23,3 +23,4 @@ pub mod CellLaws
 pub mod Outcomes
 pub mod Writable
 pub mod Timed
+pub mod Placings

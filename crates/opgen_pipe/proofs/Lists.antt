@@ -4,8 +4,7 @@ use Rattle.std.specs.Prelude.{◌⊎◌, Contains, cond, filter, slice_get}
 use Rattle.std.specs.List.{range_with_len}
 use Rattle.std.proofs.lemmas.Bool.{cases_Bool}
 use Rattle.std.proofs.lemmas.List.Elements.{All-contains, All-filter, All-contains_itself}
-use Rattle.opgen_net.specs.declared.node.Node.{Node}
-use Rattle.opgen_net.specs.Made.{each_node}
+pub use Rattle.opgen_schedule.proofs.Graphs.{length-each, get-each}
 
 pub get-left : {X : Type 0} (xs ys : List X) (m : ℕ) → m < length xs → slice_get (xs ++ ys) m ≡ slice_get xs m
 get-left [] ys m h = absurd (omega (arith, h))
@@ -38,26 +37,6 @@ pub get-range : (a n k : ℕ) → k < n → slice_get (range_with_len a n) k ≡
 get-range a zero k h = absurd (omega (arith, h))
 get-range a (suc n) zero h = let e : a ≡ a + 0 = omega arith in ap Some e
 get-range a (suc n) (suc k) h = let e : a + 1 + k ≡ a + suc k = omega arith in get-range (a + 1) n k (omega (arith, h)) ∙ ap Some e
-
--- a value of each node by its number
-pub length-each : {X : Type 0} (f : ℕ → Node → X) (k : ℕ) (ns : List Node) → length (each_node f k ns) ≡ length ns
-length-each f k [] = refl
-length-each f k (n ∷ ns) = ap suc (length-each f (k + 1) ns)
-
-get-each_on : {X : Type 0} (f : ℕ → Node → X) (k : ℕ) (ns : List Node) (j : ℕ) (n : Node) → slice_get ns j ≡ Some n
-    → slice_get (each_node f k ns) j ≡ Some (f (k + j) n)
-get-each_on f k [] j n h = absurd (cc)
-get-each_on f k (m ∷ ns) zero n h =
-    let is : m ≡ n = cc in
-    let e : k ≡ k + 0 = omega arith in
-    ap (λ x. Some (f k x)) is ∙ ap (λ i. Some (f i n)) e
-get-each_on f k (m ∷ ns) (suc j) n h =
-    let e : k + 1 + j ≡ k + suc j = omega arith in
-    get-each_on f (k + 1) ns j n h ∙ ap (λ i. Some (f i n)) e
-
-pub get-each : {X : Type 0} (f : ℕ → Node → X) (ns : List Node) (j : ℕ) (n : Node) → slice_get ns j ≡ Some n
-    → slice_get (each_node f 0 ns) j ≡ Some (f j n)
-get-each f ns j n h = let e : 0 + j ≡ j = omega arith in get-each_on f 0 ns j n h ∙ ap (λ i. Some (f i n)) e
 
 -- what a filter keeps
 module _ {X : Type 0} (p : X → Bool) where

@@ -2,7 +2,7 @@
 use Rattle.std.proofs.Common.{◌≡◌, ℕ, ◌+◌, ◌<◌, ◌≤◌, Bool, true, false, List, [], ◌∷◌, ◌++◌, length, map, get_or, take, drop, refl, sym, ap, ◌∙◌, arith}
 use Rattle.std.specs.Prelude.{not, cond, filter}
 use Rattle.std.specs.List.{range_with_len}
-use Rattle.std.proofs.lemmas.List.{length-drop, drop_more, map_more, append-nil, append_assoc}
+use Rattle.std.proofs.lemmas.List.{length-drop, map_more, append-nil, append_assoc}
 use Rattle.std.proofs.lemmas.List.Elements.{filter-append}
 use Rattle.std.proofs.lemmas.List.FromFn.{map-range_with_len_more}
 use Rattle.opgen_design.specs.declared.design.Driver.{Driver}
@@ -13,6 +13,7 @@ use Rattle.opgen_net.specs.Made.{addressed}
 use Rattle.opgen_net.specs.Valid.{is_delay}
 use Rattle.opgen_pipe.specs.declared.standing.Standing.{Standing}
 use Rattle.opgen_pipe.specs.Pipelined.{all_of, own_driver, copy_register}
+pub use Rattle.opgen_schedule.proofs.Passes.{drop-item}
 
 -- an item more of a list made from a function
 pub range-more : {X : Type 0} (f : ℕ → X) (a n j : ℕ) (old now : List X) (x : X) → now ≡ old ++ map f (range_with_len a n) → a + n ≡ j → x
@@ -32,10 +33,6 @@ mapped-more f xs i x old now next y l e is before after =
     after ∙ ap (λ ys. ys ++ y ∷ []) before ∙ append_assoc old front (y ∷ [])
     ∙ ap (λ z. old ++ (front ++ z ∷ [])) (is ∙ ap f e)
     ∙ ap (λ ys. old ++ ys) (sym (map_more f xs i x l))
-
--- what is left of a list from an item on is the item, and then what is left after it
-pub drop-item : {X : Type 0} (xs : List X) (i : ℕ) (x : X) → i < length xs → x ≡ get_or xs i x → drop i xs ≡ x ∷ drop (i + 1) xs
-drop-item xs i x l e = drop_more xs i x l ∙ ap (λ y. y ∷ drop (i + 1) xs) (sym e)
 
 module _ {X : Type 0} (f : ℕ → Node → List X) where
   pub all-at : (ns : List Node) (i : ℕ) (n : Node) → i < length ns → n ≡ get_or ns i n → all_of f i (drop i ns)

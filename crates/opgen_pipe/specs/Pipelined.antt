@@ -1,5 +1,5 @@
 -- The design of a net at a schedule: node i is signal s<i>, and its copies are the registers s<i>_1, s<i>_2 and so on.
-use Rattle.std.specs.Prelude.{ℕ, ◌+◌, negsuc, Bool, true, false, not, ◌&&◌, if◌then◌else◌, List, [], ◌∷◌, ◌++◌, length, map, filter, codes, decimal, Option, Some, None}
+use Rattle.std.specs.Prelude.{ℕ, ◌+◌, negsuc, Bool, not, ◌&&◌, if◌then◌else◌, List, [], ◌∷◌, ◌++◌, length, map, filter, codes, decimal, Option, Some, None}
 use Rattle.std.specs.List.{list_any, range_with_len}
 use Rattle.opgen_net.specs.declared.node.Node.{Node}
 use Rattle.opgen_net.specs.declared.node.Node.TheVariants as node

@@ -7,12 +7,14 @@ ghost use Rattle.opgen_pipe.specs.Layouts.{IsLaidOut, IsLayout};
 
 use crate::cells::{net_delays, setup_time};
 use crate::counts::{copies, signal_count};
+use crate::fewest::place;
+use crate::placing::Timing;
 use crate::planning::PlanFault;
 use crate::standing::Standing;
 use crate::standings::standings;
 use opgen_design::MAX_SIGNALS;
 use opgen_net::Net;
-use opgen_schedule::{greatest, greatest_time, latency, stage};
+use opgen_schedule::{greatest, greatest_time, latency};
 use opgen_target::Target;
 use std::alloc::{AllocError, Global};
 
@@ -25,28 +27,28 @@ pub struct Layout {
     pub slack: u64,
 }
 
-// The layout of a net, over the widths of its nodes, in which each node stands as early as these delays allow.
+// The layout of a net, over the widths of its nodes, over these delays of its nodes.
 fn lay_out_for(
     alloc: Global,
     net: &Net,
     widths: &[u32],
     delays: &[u32],
     setup: u32,
-    period: u32,
+    timing: Timing,
 ) -> Result<Layout, PlanFault>
     requires valid { IsValid net.now }
     requires widths { widths.now ≡ widths_of net.now.nodes }
     requires delays { length delays.now ≡ length net.now.nodes }
     ensures layout { IfOk result (IsLayout net.now) }
-    ensures outcome { (table : Delays) → delays.now ≡ net_delays table net.now → setup ≡ setup_of table → IsLaidOut net.now table period result }
+    ensures outcome { (table : Delays) → delays.now ≡ net_delays table net.now → setup ≡ setup_of table → IsLaidOut net.now timing.placing table timing.period result }
 {
     let need = u64::from(greatest(delays)) + u64::from(setup);
-    if need > u64::from(period) {
+    if need > u64::from(timing.period) {
         return Err(PlanFault::PeriodTooShort { need });
     }
     let nodes = net.nodes.as_slice();
-    let slots = stage(alloc, nodes, delays, setup, period)?;
-    let slack = u64::from(period - setup - greatest_time(&slots));
+    let slots = place(alloc, net, widths, delays, setup, timing)?;
+    let slack = u64::from((timing.period - setup).saturating_sub(greatest_time(&slots)));
     let latency = latency(nodes, &slots, net.outputs.as_slice());
     let copies = copies(alloc, net, &slots, latency)?;
     if signal_count(&copies) > MAX_SIGNALS {
@@ -60,19 +62,19 @@ fn lay_out_for(
     })
 }
 
-/// The layout of a net, over the widths of its nodes, in which each node stands as early as the delays of the target allow.
+/// The layout of a net, over the widths of its nodes, for a period and a placing under the delays of the target.
 pub(crate) fn lay_out(
     alloc: Global,
     net: &Net,
     widths: &[u32],
     target: &Box<dyn Target>,
-    period: u32,
+    timing: Timing,
 ) -> Result<Layout, PlanFault>
     requires valid { IsValid net.now }
     requires widths { widths.now ≡ widths_of net.now.nodes }
     ensures layout { IfOk result (IsLayout net.now) }
-    ensures outcome { IsLaidOut net.now (delays target.now) period result }
+    ensures outcome { IsLaidOut net.now timing.placing (delays target.now) timing.period result }
 {
     let delays = net_delays(alloc, net, widths, target)?;
-    lay_out_for(alloc, net, widths, &delays, setup_time(target), period)
+    lay_out_for(alloc, net, widths, &delays, setup_time(target), timing)
 }

@@ -14,5 +14,6 @@ pub mod Wholes
 pub mod Roundings
 pub mod Marks
 pub mod OneGood
+pub mod Turned
 pub mod Lawful
 pub mod Accepted

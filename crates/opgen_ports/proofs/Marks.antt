@@ -1,7 +1,5 @@
 -- Modes of outputs that are exact or faithful, numbers that are good in modes, and compressors of bits.
 use Rattle.std.proofs.Common.{◌≡◌, ◌↔◌, Bool, true, false, IsTrue, refl}
-use Rattle.opgen_num.specs.declared.mode.Mode.{Mode}
-use Rattle.opgen_num.specs.declared.mode.Mode.TheVariants.{Exact, Faithful, Down, Nearest}
 use Rattle.opgen_ports.specs.Modes.{is_exact, mode_of_exact, IsExactOrFaithful}
 use Rattle.opgen_ports.specs.Recipes.{compressor_of, has_counters, is_of_bits}
 

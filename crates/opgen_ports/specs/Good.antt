@@ -1,5 +1,5 @@
 -- When an output is good for a fraction, in a mode.
-use Rattle.std.specs.Prelude.{Bool, ℤ, ◌≡◌, refl, true, false, pos, negsuc, ◌^◌, ◌+ℤ◌, ◌*ℤ◌, int_lt, if◌then◌else◌}
+use Rattle.std.specs.Prelude.{Bool, ℕ, ℤ, ◌≡◌, refl, true, false, pos, negsuc, ◌^◌, ◌+ℤ◌, ◌*ℤ◌, int_lt, if◌then◌else◌}
 use Rattle.opgen_num.specs.declared.format.Ratio.{Ratio}
 use Rattle.opgen_num.specs.declared.mode.Mode.{Mode}
 use Rattle.opgen_num.specs.declared.mode.Mode.TheVariants.{Exact}
@@ -31,13 +31,17 @@ saturated to n = into_range (least_of to) (greatest_of to) n
 abbrev pub IsGoodSaturated : (mode : Mode) → (to : Format) → (n m y : ℤ) → Type 0
 IsGoodSaturated mode to n m y = IsGoodLinear (into_range (m *ℤ least_of to) (m *ℤ greatest_of to) n) m y mode
 
+-- two numbers are the same modulo two to a power
+pub record IsTurned (power : ℕ) (whole y : ℤ) : Type 0 where
+  pub turns : ℤ
+  pub same : y ≡ whole +ℤ (pos (2 ^ power) *ℤ turns)
+
 -- y is, modulo two to the power of the width of a format, a number that is good for n / m and within the range of the output's own
 pub record IsGoodWrapped (mode : Mode) (own to : Format) (n m y : ℤ) : Type 0 where
   pub whole : ℤ
   pub good : IsGoodLinear n m whole mode
   pub held : saturated own whole ≡ whole
-  pub turns : ℤ
-  pub same : y ≡ whole +ℤ (pos (2 ^ to.width) *ℤ turns)
+  pub turned : IsTurned to.width whole y
 
 -- y is good for n / m, which may be out of the range of the format that is chosen
 abbrev pub IsGoodChosen : Overflow → (mode : Mode) → (own to : Format) → (n m y : ℤ) → Type 0
@@ -65,7 +69,7 @@ abbrev bits_of_own : Format
 bits_of_own = record { signed = true; width = 6; lsb = pos 0 }
 
 wrapped : IsGoodWrapped Exact bits_of_own (bits_of false) (pos 18) (pos 1) (pos 2)
-wrapped = record { whole = pos 18; good = refl; held = refl; turns = negsuc 0; same = refl }
+wrapped = record { whole = pos 18; good = refl; held = refl; turned = record { turns = negsuc 0; same = refl } }
 
 wrapped_below : IsGoodWrapped Exact bits_of_own (bits_of true) (negsuc 8) (pos 1) (pos 7)
-wrapped_below = record { whole = negsuc 8; good = refl; held = refl; turns = pos 1; same = refl }
+wrapped_below = record { whole = negsuc 8; good = refl; held = refl; turned = record { turns = pos 1; same = refl } }

@@ -2,11 +2,11 @@
 use Rattle.std.specs.Prelude.{ℕ, ◌≡◌, ◌⊎◌, ◌==◌, if◌then◌else◌}
 use Rattle.opgen_num.specs.declared.format.TheConstants.{MAX_INPUT, MAX_WIDTH}
 
--- there are three versions
+-- there are four versions
 abbrev pub IsVersion : ℕ → Type 0
-IsVersion version = (version ≡ 1) ⊎ ((version ≡ 2) ⊎ (version ≡ 3))
+IsVersion version = (version ≡ 1) ⊎ ((version ≡ 2) ⊎ ((version ≡ 3) ⊎ (version ≡ 4)))
 
--- Where a number is no version the limits are those of versions 2 and 3. No answer hangs on them: such a version is a fault that
+-- Where a number is no version the limits are those of versions 2 to 4. No answer hangs on them: such a version is a fault that
 -- comes before all that have limits.
 
 -- the most bits of an input

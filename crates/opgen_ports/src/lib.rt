@@ -9,27 +9,28 @@
 //! cycle and before it, of outputs, and the sum of the last inputs, each times a coefficient. Whether formats, powers,
 //! lengths and numbers are within their ranges. Whether a coefficient is whole in units of the output's last place. How
 //! many different odd parts some numbers have. Whether a number is good for a fraction that is brought into the range of
-//! a format. The mode of outputs that are exact, faithful or rounded, and what a mark of a mode says. What is told of recipes. The
-//! greatest shift of an operator in a version. Which names a specification may have.
+//! a format, or is so modulo a power of two. The mode of outputs that are exact, faithful or rounded, and what a mark of
+//! a mode says. What is told of recipes. The greatest shift of an operator in a version. Which names a specification may
+//! have.
 //!
 //! By: `port`, `one`, `operands`, `with_rest`, `unsigned`, `covering`; `reach_of`, `reach_over`, `reach_of_product`,
 //! `in_places`, `width_of`; `places_up`, `places_down`, `power`, `raised`, `scaled`, `units`, `is_whole`; `is_version`,
 //! `most_input`, `most_signal`; `is_history`, `is_cycle`; `input`, `recent`, `last_two`, `weighted`, `output`; `is_power`,
-//! `is_near`, `are_near`, `is_input`, `is_length`, `is_denominator`, `are_within`; `odd_part_count`; `good_saturated`;
-//! `mode_of_exact`, `mode_by`, `is_exact`, `is_faithful`, `is_exact_or_faithful`, `is_marked`; the methods of `Compressor`, `Recurrence`
-//! and `Recipe`; `Profile::most_shift_in`; `is_spec_name`.
+//! `is_near`, `are_near`, `is_input`, `is_length`, `is_denominator`, `are_within`; `odd_part_count`; `good_saturated`,
+//! `good_wrapped`; `mode_of_exact`, `mode_by`, `is_exact`, `is_faithful`, `is_exact_or_faithful`, `is_marked`; the methods
+//! of `Compressor`, `Recurrence` and `Recipe`; `Profile::most_shift_in`; `is_spec_name`.
 #![tactic(auto)]
 
 pub mod history;
 mod limits;
 pub mod modes;
 mod odd_parts;
+pub mod overflow;
 pub mod ports;
 mod profile;
 pub mod ranges;
 pub mod reach;
 mod recipes;
-pub mod saturated;
 pub mod shifts;
 mod spec_name;
 mod words;

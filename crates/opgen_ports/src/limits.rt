@@ -8,7 +8,7 @@ use opgen_num::{MAX_INPUT, MAX_WIDTH};
 pub fn is_version(version: u32) -> bool
     ensures { IsTrue result ↔ IsVersion version }
 {
-    version == 1 || version == 2 || version == 3
+    version == 1 || version == 2 || version == 3 || version == 4
 }
 
 /// The most bits that an input has in a version of specifications.

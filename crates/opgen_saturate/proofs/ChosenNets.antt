@@ -1,5 +1,5 @@
 -- The net of an operator fits the specification once its output has the width that is chosen.
-use Rattle.std.proofs.Common.{◌≡◌, ℕ, ◌<◌, ◌≤◌, Bool, true, false, Option, Some, None, List, [], ◌∷◌, get_or, length, map, refl, sym, ap, ◌∙◌, subst, arith}
+use Rattle.std.proofs.Common.{◌≡◌, ℕ, ◌<◌, Option, Some, None, List, [], ◌∷◌, get_or, length, map, refl, sym, ap, ◌∙◌, subst}
 use Rattle.std.proofs.lemmas.List.Elements.{All-nil, All-cons}
 use Rattle.std.specs.Prelude.{pos, codes, All}
 use Rattle.opgen_design.specs.Run.{AreWords}
@@ -8,7 +8,7 @@ use Rattle.opgen_net.specs.declared.net.Output.{Output}
 use Rattle.opgen_net.specs.Flow.{Inputs, slice_flow}
 use Rattle.opgen_net.specs.Valid.{input_widths, slice_width}
 use Rattle.opgen_num.specs.declared.format.Format.{Format}
-use Rattle.opgen_num.specs.declared.mode.Overflow.TheVariants.{Saturate}
+use Rattle.opgen_num.specs.Formats.{Holds}
 use Rattle.opgen_num.specs.Words.{val}
 use Rattle.opgen_operator.specs.declared.spec.Spec.{Spec}
 use Rattle.opgen_operator.specs.Fits.{FitsInEachMode, FitsOperator, FitsSpec, name_and_width}
@@ -18,12 +18,12 @@ use Rattle.opgen_operator.specs.Valid.{IsValidSpec}
 use Rattle.opgen_operator.proofs.Operators.{only_output, plain_is, some_value, value_good, value_positive}
 use Rattle.opgen_operator.proofs.Valued.{choice, outputs_are, plain_width, to_width}
 use Rattle.opgen_ports.specs.Ports.{format_at, port}
-use Rattle.opgen_ports.specs.Good.{saturated, IsGoodSaturated}
+use Rattle.opgen_ports.specs.Good.{IsGoodChosen}
 use Rattle.opgen_saturate.specs.Chosen.{cut_by, cut_net}
-use Rattle.opgen_saturate.specs.Output.{AreOutputFormats, saturated_net, first_word, port_in}
+use Rattle.opgen_saturate.specs.Output.{AreOutputFormats, converted_net, first_word, port_in}
 use Rattle.opgen_operator.proofs.Accepted.{accepted, plain_fits}
-use Rattle.opgen_saturate.proofs.Law.{keeps_good}
-use Rattle.opgen_saturate.proofs.Slices.{IsSaturated, net_saturated}
+use Rattle.opgen_saturate.proofs.Law.{keeps_chosen}
+use Rattle.opgen_saturate.proofs.Slices.{IsConverted, net_converted}
 
 abbrev one_port : (name : List ℕ) (width : ℕ) → List (List ℕ × ℕ)
 one_port name width = (name, width) ∷ []
@@ -67,10 +67,10 @@ module _ (spec : Spec) (net : Net) (valid : IsValidSpec spec) (fits : FitsOperat
   }
 
   abbrev pub made : Net
-  made = saturated_net from to net
+  made = converted_net spec.overflow from to net
 
-  all : IsSaturated net from to made
-  all = net_saturated net from to fits.valid formats
+  all : IsConverted spec.overflow net from to made
+  all = net_converted spec.overflow net from to fits.valid formats
 
   cut_good : (inputs : Inputs) (t : ℕ) → All (AreWords (input_widths made)) inputs → t < length inputs
       → IsInRange spec (recent_words (inputs_of spec) inputs t)
@@ -80,28 +80,25 @@ module _ (spec : Spec) (net : Net) (valid : IsValidSpec spec) (fits : FitsOperat
       let ins = recent_words (inputs_of spec) inputs t in
       let plain = output_words (operator_outputs spec.op) (map (λ o. slice_flow net.nodes inputs o.from (pos t)) net.outputs) in
       let before : All (AreWords (input_widths net)) inputs =
-      subst (λ is. All (AreWords (map (λ (i : List ℕ × ℕ). i.1) is)) inputs) all.saturates.inputs words in
+      subst (λ is. All (AreWords (map (λ (i : List ℕ × ℕ). i.1) is)) inputs) all.converts.inputs words in
       let good : IsGoodOf (mode_of spec) spec.op ins plain = fits.good inputs t before below in_range in
       let (v, value) = some_value spec.op ins (choice spec valid width is).1 in
       let rated = value_good (mode_of spec) spec.op ins plain v valid.mode.agrees value good in
       let some = value_positive spec.op ins v valid.op.ranges in_range value in
-      let kept : IsGoodSaturated (mode_of spec) to v.num v.den (saturated to (plain 0)) = keeps_good (mode_of spec) to v.num v.den (plain 0) some rated in
       let y = val (first_word made inputs (pos t)) to in
-      let number : y ≡ saturated to (plain 0) = all.saturates.number inputs (pos t) before in
-      let cut : IsGoodCut Saturate (mode_of spec) from to (Some v) y =
-      subst (λ n. IsGoodSaturated (mode_of spec) to v.num v.den n) (sym number) kept in
-      let judged : IsGoodCut Saturate (mode_of spec) from to (exact_value spec.op ins) y =
-      subst (λ o. IsGoodCut Saturate (mode_of spec) from to o y) (sym value) cut in
+      let held : Holds from.signed from.width (plain 0) = all.held inputs (pos t) before in
+      let kept : IsGoodChosen spec.overflow (mode_of spec) from to v.num v.den y =
+      keeps_chosen spec.overflow (mode_of spec) from to v.num v.den (plain 0) y some rated held (all.converts.number inputs (pos t) before) in
       let chosen : IsGoodCut spec.overflow (mode_of spec) from to (exact_value spec.op ins) y =
-      subst (λ o. IsGoodCut o (mode_of spec) from to (exact_value spec.op ins) y) (sym valid.overflow) judged in
+      subst (λ o. IsGoodCut spec.overflow (mode_of spec) from to o y) (sym value) kept in
       subst (λ w. IsGoodBy w spec ins (output_words (outputs_of spec) (map (λ o. slice_flow made.nodes inputs o.from (pos t)) made.outputs)))
       (sym is) chosen
 
-  pub saturated_fits : FitsSpec spec made
-  saturated_fits = record {
+  pub converted_fits : FitsSpec spec made
+  converted_fits = record {
     valid = all.valid;
-    inputs = all.saturates.inputs ∙ fits.inputs;
-    outputs = all.saturates.outputs ∙ alone.other to ∙ sym (ap (map name_and_width) (outputs_are spec valid width is));
+    inputs = all.converts.inputs ∙ fits.inputs;
+    outputs = all.converts.outputs ∙ alone.other to ∙ sym (ap (map name_and_width) (outputs_are spec valid width is));
     delays = all.passes (memory spec.op) fits.delays;
     good = cut_good;
   }
@@ -125,15 +122,15 @@ module _ (spec : Spec) (net : Net) (valid : IsValidSpec spec) (each : FitsInEach
           (subst (λ f. AreOutputFormats net (format_at (operator_outputs spec.op) 0) f) to_same
           (formats spec net valid (each (mode_of spec) valid.mode) width is))
 
-  pub cut_fits_by : FitsSpec spec (saturated_net from to net)
+  pub cut_fits_by : FitsSpec spec (converted_net spec.overflow from to net)
   cut_fits_by = go spec.out_width refl
     where
-      go : (width : Option ℕ) → spec.out_width ≡ width → FitsSpec spec (saturated_net from to net)
+      go : (width : Option ℕ) → spec.out_width ≡ width → FitsSpec spec (converted_net spec.overflow from to net)
       go None is = absurd (some is)
       go (Some width) is =
-          subst (λ f. FitsSpec spec (saturated_net f to net)) (from_same width is)
-          (subst (λ f. FitsSpec spec (saturated_net (format_at (operator_outputs spec.op) 0) f net)) to_same
-          (saturated_fits spec net valid (each (mode_of spec) valid.mode) width is))
+          subst (λ f. FitsSpec spec (converted_net spec.overflow f to net)) (from_same width is)
+          (subst (λ f. FitsSpec spec (converted_net spec.overflow (format_at (operator_outputs spec.op) 0) f net)) to_same
+          (converted_fits spec net valid (each (mode_of spec) valid.mode) width is))
 
 -- in either case
 pub cut_fits : (spec : Spec) (net : Net) → IsValidSpec spec → FitsInEachMode spec.op net → FitsSpec spec (cut_net spec net)
@@ -144,4 +141,4 @@ cut_fits spec net valid each = go spec.out_width refl
 
     go : (width : Option ℕ) → spec.out_width ≡ width → FitsSpec spec (cut_by width spec net)
     go None is = plain_fits spec net is fits
-    go (Some width) is = saturated_fits spec net valid fits width is
+    go (Some width) is = converted_fits spec net valid fits width is

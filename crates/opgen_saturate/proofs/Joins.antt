@@ -15,7 +15,7 @@ use Rattle.opgen_net.proofs.FlowWidths.{flow-width}
 use Rattle.opgen_net.proofs.Grown.{grown-flow, grown-width}
 use Rattle.opgen_net.proofs.Later.{Later, later-same, later-then, words-later}
 use Rattle.opgen_saturate.specs.Recipe.{any_node, joins, share, with_joins, last_place}
-use Rattle.opgen_saturate.specs.Saturates.{AreBits}
+use Rattle.opgen_saturate.specs.Converts.{AreBits}
 use Rattle.opgen_saturate.proofs.Bits.{any_at, chain_or}
 use Rattle.opgen_saturate.proofs.Expressions.{any_node-fits}
 use Rattle.opgen_saturate.proofs.Groups.{any-split, any-one, any-same, or_swapped, one-left, share-some, join-next}

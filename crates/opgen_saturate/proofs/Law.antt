@@ -1,17 +1,22 @@
--- Bringing a value and a number into one range takes neither further from the other.
-use Rattle.std.proofs.Common.{◌≡◌, ℕ, ◌-◌, arith}
+-- Bringing a value and a number into one range takes neither further from the other, and a number that wraps stays one of the values'.
+use Rattle.std.proofs.Common.{◌≡◌, sym, subst, arith}
 use Rattle.std.specs.Prelude.{ℤ, pos, ◌+ℤ◌, ◌*ℤ◌, ◌<ℤ◌, ◌≤ℤ◌}
-use Rattle.std.proofs.lemmas.Int.{ints, by_lt_z}
-use Rattle.std.proofs.lemmas.Nat.{pow_pos}
+use Rattle.std.proofs.lemmas.Int.{ints}
+use Rattle.opgen_num.specs.declared.format.Format.{Format}
+use Rattle.opgen_num.specs.declared.mode.Mode.{Mode}
 use Rattle.opgen_num.specs.declared.mode.Mode.TheVariants.{Exact, Faithful, Down, Nearest}
+use Rattle.opgen_num.specs.declared.mode.Overflow.{Overflow}
+use Rattle.opgen_num.specs.declared.mode.Overflow.TheVariants.{Saturate, Wrap}
 use Rattle.opgen_num.specs.Floors.{IsFloor}
-use Rattle.opgen_num.specs.Rounding.{IsNearest}
-use Rattle.opgen_num.specs.Formats.{least, greatest}
+use Rattle.opgen_num.specs.Rounding.{IsGoodLinear, IsNearest}
+use Rattle.opgen_num.specs.Formats.{Holds}
 use Rattle.opgen_num.proofs.Integers.{products, product_assoc, product_order}
 use Rattle.opgen_num.proofs.Quotients.{within_one, within_one-bounds}
 use Rattle.opgen_ports.proofs.Clamped.{Lies, under, over, inside, lies, in_order}
-use Rattle.opgen_ports.specs.Good.{into_range, least_of, greatest_of, saturated}
-use Rattle.opgen_saturate.specs.Law.{SaturationKeepsGood}
+use Rattle.opgen_ports.specs.Good.{into_range, least_of, greatest_of, saturated, IsGoodChosen, IsGoodSaturated}
+use Rattle.opgen_saturate.specs.Converts.{Becomes}
+use Rattle.opgen_saturate.specs.Law.{SaturationKeepsGood, WrappingKeepsGood}
+use Rattle.opgen_saturate.proofs.Decision.{stays}
 
 module _ (m : ℤ) (some : pos 0 <ℤ m) where
   order : (a b : ℤ) → a ≤ℤ b → (m *ℤ a) ≤ℤ (m *ℤ b)
@@ -114,3 +119,18 @@ keeps_good Down to n m y some floor =
 keeps_good Nearest to n m y some floor =
     close m some (least_of to) (greatest_of to) n y (in_order to.signed to.width) floor (lies (least_of to) (greatest_of to) y)
     (lies (m *ℤ least_of to) (m *ℤ greatest_of to) n)
+
+pub keeps_wrapped : WrappingKeepsGood
+keeps_wrapped mode own to n m whole y good held turned = record {
+  whole = whole;
+  good = good;
+  held = stays (least_of own) (greatest_of own) whole held.0 held.1;
+  turned = turned;
+}
+
+-- in either case
+pub keeps_chosen : (overflow : Overflow) (mode : Mode) (own to : Format) (n m whole y : ℤ) → pos 0 <ℤ m → IsGoodLinear n m whole mode
+    → Holds own.signed own.width whole → Becomes overflow to whole y → IsGoodChosen overflow mode own to n m y
+keeps_chosen Saturate mode own to n m whole y some good held is =
+    subst (IsGoodSaturated mode to n m) (sym is) (keeps_good mode to n m whole some good)
+keeps_chosen Wrap mode own to n m whole y some good held turned = keeps_wrapped mode own to n m whole y good held turned

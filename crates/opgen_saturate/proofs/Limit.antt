@@ -20,7 +20,7 @@ use Rattle.opgen_net.proofs.Grown.{grown-flow, grown-width}
 use Rattle.opgen_net.proofs.Later.{Later, later-then, later-node}
 use Rattle.opgen_net.proofs.WordLaws.{cut-one, all-bits}
 use Rattle.opgen_saturate.specs.Recipe.{bit_of, least_word, greatest_word, counting, with_sign, with_ends, with_limit}
-use Rattle.opgen_saturate.specs.Saturates.{AreFormats}
+use Rattle.opgen_saturate.specs.Converts.{AreFormats}
 use Rattle.opgen_saturate.proofs.Expressions.{bit-fits}
 use Rattle.opgen_saturate.proofs.Outside.{is_below_zero, highest-at}
 

@@ -1,7 +1,10 @@
--- A node of the bits of another, in the width of a format: it keeps every number of the format's range.
-use Rattle.std.proofs.Common.{◌≡◌, ℕ, ◌≤◌, Bool, true, List, length, sym, ap, ◌∙◌, subst, arith}
-use Rattle.std.specs.Prelude.{ℤ, pos, All, slice_index}
+-- A node of the bits of another, in the width of a format: it keeps every number of the format's range, and each other one modulo two
+-- to the power of the width.
+use Rattle.std.proofs.Common.{◌≡◌, ℕ, ◌^◌, ◌≤◌, Bool, true, List, length, sym, ap, ◌∙◌, subst, arith}
+use Rattle.std.specs.Prelude.{ℤ, pos, ◌+ℤ◌, ◌*ℤ◌, All, slice_index}
 use Rattle.opgen_num.specs.declared.format.Format.{Format}
+use Rattle.opgen_num.specs.declared.mode.Overflow.{Overflow}
+use Rattle.opgen_num.specs.declared.mode.Overflow.TheVariants.{Saturate, Wrap}
 use Rattle.opgen_num.specs.Formats.{Holds}
 use Rattle.opgen_num.specs.Words.{val, nat}
 use Rattle.opgen_num.proofs.Values.{val_holds}
@@ -16,18 +19,18 @@ use Rattle.opgen_net.specs.WordRule.{IsThere}
 use Rattle.opgen_net.proofs.FlowWidths.{flow-width}
 use Rattle.opgen_net.proofs.Later.{Later, bits-later, words-later}
 use Rattle.opgen_net.proofs.WordLaws.{word-has_bits, word-found_width}
-use Rattle.opgen_ports.specs.Good.{least_of, greatest_of}
+use Rattle.opgen_ports.specs.Good.{least_of, greatest_of, IsTurned}
 use Rattle.opgen_ports.proofs.InputPorts.{some_bits}
 use Rattle.opgen_saturate.specs.Recipe.{is_wider, resized}
-use Rattle.opgen_saturate.specs.Saturates.{AreFormats, Saturates}
+use Rattle.opgen_saturate.specs.Converts.{AreFormats, Converts}
 use Rattle.opgen_saturate.proofs.Ends.{value_is}
-use Rattle.opgen_saturate.proofs.Resized.{resized-length, resized-there, residue}
+use Rattle.opgen_saturate.proofs.Resized.{resized-length, resized-there, residue, turned}
 use Rattle.opgen_saturate.proofs.Decision.{stays, wider-holds}
 
 -- a valid net that has grown by such a node
-pub record Made (net : Net) (node : ℕ) (format to : Format) (made : Placed) : Type 0 where
+pub record Made (overflow : Overflow) (net : Net) (node : ℕ) (format to : Format) (made : Placed) : Type 0 where
   pub later : Later net made.net
-  pub saturates : Saturates net node format to made.net made.place
+  pub converts : Converts overflow net node format to made.net made.place
 
 -- a node of the bits of another in the width of a format
 module _ (net : Net) (node : ℕ) (format to : Format) (valid : IsValid net) (are : AreFormats net node format to) where
@@ -68,26 +71,40 @@ module _ (net : Net) (node : ℕ) (format to : Format) (valid : IsValid net) (ar
     pub low-long : length (flow low.net.nodes inputs low.place t) ≡ m
     low-long = flow-width low.net low-later.valid inputs (words-later net low.net low-later inputs words) low.place t ∙ low-width
 
-    -- a number of the range is kept
-    pub low-number : Holds to.signed m (val v format) → val (flow low.net.nodes inputs low.place t) to ≡ val v format
-    low-number range =
+    -- the number is one of its own format
+    pub node-held : Holds format.signed format.width (val v format)
+    node-held = subst (λ n. Holds format.signed n (val v format)) long (val_holds v format (omega (arith, long, few)))
+
+    abbrev low_word : List Bool
+    low_word = flow low.net.nodes inputs low.place t
+
+    low-residue : (k : ℤ) × (val v format +ℤ (pos (2 ^ m) *ℤ k) ≡ pos (nat low_word))
+    low-residue =
         let k = residue net.nodes inputs t node format are.from_width long m in
-        let n : number_at net.nodes inputs t given ≡ nat (flow low.net.nodes inputs low.place t) =
-        ap nat (sym (word-has_bits net valid given there inputs t words)) in
-        value_is (flow low.net.nodes inputs low.place t) to (val v format) k.0 low-long are.to_width (k.1 ∙ ap pos n) range
+        let n : number_at net.nodes inputs t given ≡ nat low_word = ap nat (sym (word-has_bits net valid given there inputs t words)) in
+        (k.0, k.1 ∙ ap pos n)
+
+    -- a number of the range is kept
+    pub low-number : Holds to.signed m (val v format) → val low_word to ≡ val v format
+    low-number range = value_is low_word to (val v format) low-residue.0 low-long are.to_width low-residue.1 range
+
+    -- each number is kept modulo two to the power of the width
+    low-turned : IsTurned m (val v format) (val low_word to)
+    low-turned = turned low_word to (val v format) low-residue.0 low-long low-residue.1
 
   -- where the format is wider
-  pub wider : is_wider format to ≡ true → Made net node format to low
+  pub wider : is_wider format to ≡ true → Made Saturate net node format to low
   wider h = record {
     later = low-later;
-    saturates = record {
+    converts = record {
       width = low-width;
       number = λ inputs t words.
           let x = flow net.nodes inputs node t in
-          let e = long inputs t words in
-          let held : Holds format.signed format.width (val x format) =
-          subst (λ n. Holds format.signed n (val x format)) e (val_holds x format (omega (arith, e, few))) in
-          let range = wider-holds format to (val x format) few h held in
+          let range = wider-holds format to (val x format) few h (node-held inputs t words) in
           low-number inputs t words range ∙ sym (stays (least_of to) (greatest_of to) (val x format) range.0 range.1);
     };
   }
+
+  -- where numbers wrap
+  pub wrapped : Made Wrap net node format to low
+  wrapped = record { later = low-later; converts = record { width = low-width; number = low-turned } }

@@ -1,4 +1,5 @@
--- The bits of a node, as many as are asked for: their number is that of the node, less a multiple of the power that is lost.
+-- The bits of a node, as many as are asked for: their number is that of the node, less a multiple of the power that is lost. So is the
+-- number for which they stand in a format.
 use Rattle.std.proofs.Common.{◌≡◌, ℕ, zero, suc, ◌+◌, ◌-◌, ◌*◌, ◌^◌, ◌≤◌, min, cond, inl, inr, Bool, true, false, ◌&&◌, if◌then◌else◌, List, [], ◌∷◌, ◌++◌, length, length-append, take, drop, replicate, refl, sym, ap, ◌∙◌, subst, arith}
 use Rattle.std.specs.Prelude.{ℤ, pos, ◌+ℤ◌, ◌-ℤ◌, ◌*ℤ◌, All, slice_index, slice_index_or}
 use Rattle.std.proofs.Math.Nat.{two-pow-succ}
@@ -21,6 +22,7 @@ use Rattle.opgen_net.specs.Placed.{number_at}
 use Rattle.opgen_net.specs.WordRule.{IsThere, bits_from, bit_flow}
 use Rattle.opgen_net.proofs.BitLists.{length-bits_from, bits_from-there, bits_from-flow}
 use Rattle.opgen_net.proofs.Numbers.{at-append, at-node}
+use Rattle.opgen_ports.specs.Good.{IsTurned}
 use Rattle.opgen_saturate.specs.Recipe.{fill, resized}
 use Rattle.opgen_saturate.proofs.Outside.{highest-at, is_below_zero}
 
@@ -52,6 +54,27 @@ resized-there ws node format m some e =
     (m - format.width))
     (bits_from-there ws node 0 (min m format.width) (omega (arith, e)))
 
+-- a number, less a power of two where the word is negative: the value of the word
+abbrev less_power : (width n : ℕ) (negative : Bool) → ℤ
+less_power width n negative = pos n -ℤ pos (cond negative (2 ^ width) 0)
+
+value : (v : List Bool) (format : Format) → length v ≡ format.width
+    → val v format ≡ less_power format.width (nat v) (is_below_zero v format)
+value v format long = go format.signed
+  where
+    go : (signed : Bool) → (if signed then int v else pos (nat v)) ≡ less_power format.width (nat v) (signed && highest v)
+    go true = ap (λ n. pos (nat v) -ℤ pos (cond (highest v) (2 ^ n) 0)) long
+    go false = omega (arith, ints)
+
+-- a word whose number is another one, modulo two to the power of its width, has a value that is so
+pub turned : (v : List Bool) (format : Format) (whole k : ℤ) → length v ≡ format.width
+    → whole +ℤ (pos (2 ^ format.width) *ℤ k) ≡ pos (nat v) → IsTurned format.width whole (val v format)
+turned v format whole k long number = go (is_below_zero v format) (value v format long)
+  where
+    go : (negative : Bool) → val v format ≡ less_power format.width (nat v) negative → IsTurned format.width whole (val v format)
+    go true e = record { turns = k -ℤ pos 1; same = omega (arith, ints, number, e, product-difference (pos (2 ^ format.width)) k (pos 1)) }
+    go false e = record { turns = k; same = omega (arith, ints, number, e) }
+
 module _ (nodes : List Node) (inputs : Inputs) (t : ℤ) (node : ℕ) (format : Format) (some : IsWidthOf format.signed format.width)
     (long : length (flow nodes inputs node t) ≡ format.width) where
   abbrev v : List Bool
@@ -77,14 +100,7 @@ module _ (nodes : List Node) (inputs : Inputs) (t : ℤ) (node : ℕ) (format : 
       go false = refl
 
   abbrev number : Bool → ℤ
-  number negative = pos (nat v) -ℤ pos (cond negative (2 ^ w) 0)
-
-  value : val v format ≡ number (is_below_zero v format)
-  value = go format.signed
-    where
-      go : (signed : Bool) → (if signed then int v else pos (nat v)) ≡ pos (nat v) -ℤ pos (cond (signed && highest v) (2 ^ w) 0)
-      go true = ap (λ n. pos (nat v) -ℤ pos (cond (highest v) (2 ^ n) 0)) long
-      go false = omega (arith, ints)
+  number negative = less_power w (nat v) negative
 
   copies : (b : WordBit) (j : ℕ) → at (replicate j b) + digit (bit_flow nodes inputs t b) ≡ 2 ^ j * digit (bit_flow nodes inputs t b)
   copies b zero = omega arith
@@ -149,4 +165,4 @@ module _ (nodes : List Node) (inputs : Inputs) (t : ℤ) (node : ℕ) (format : 
         | inl h ↦ long-residue m (omega (arith, h)) (is_below_zero v format) filled
         | inr h ↦ cut-residue m h (is_below_zero v format)
       ] in
-      (found.0, ap (λ z. z +ℤ (pos (2 ^ m) *ℤ found.0)) value ∙ found.1)
+      (found.0, ap (λ z. z +ℤ (pos (2 ^ m) *ℤ found.0)) (value v format long) ∙ found.1)

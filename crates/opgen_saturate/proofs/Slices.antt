@@ -1,9 +1,10 @@
--- A slice, and the only output of a net, brought into the range of another format.
+-- A slice, and the only output of a net, in another format.
 use Rattle.std.proofs.Common.{◌≡◌, ℕ, List, [], ◌∷◌, ◌++◌, length, map, take, drop, refl, sym, ap, ◌∙◌, subst, arith}
 use Rattle.std.specs.Prelude.{ℤ, All, slice_index}
 use Rattle.std.proofs.lemmas.List.Elements.{All-head, All-nil}
 use Rattle.opgen_num.specs.declared.format.Format.{Format}
-use Rattle.opgen_num.specs.Formats.{IsWidthOf}
+use Rattle.opgen_num.specs.declared.mode.Overflow.{Overflow}
+use Rattle.opgen_num.specs.Formats.{Holds, IsWidthOf}
 use Rattle.opgen_num.specs.Words.{val}
 use Rattle.opgen_design.specs.declared.expr.Slice.{Slice}
 use Rattle.opgen_design.specs.Run.{AreWords}
@@ -22,14 +23,13 @@ use Rattle.opgen_net.proofs.FlowWidths.{flow-width}
 use Rattle.opgen_net.proofs.Grown.{grown-passes}
 use Rattle.opgen_net.proofs.Later.{Later, later-then, bits-later, words-later}
 use Rattle.opgen_net.proofs.WordLaws.{word-has_bits, word-found_width, all-bits}
-use Rattle.opgen_saturate.specs.Output.{AreOutputFormats, with_slice, saturated_output, saturated_outputs, saturated_net, first_word, port_of, port_in, SaturatesOutput}
-use Rattle.opgen_ports.specs.Good.{saturated}
+use Rattle.opgen_saturate.specs.Output.{AreOutputFormats, with_slice, converted_output, converted_outputs, converted_net, first_word, port_of, port_in, ConvertsOutput}
 use Rattle.opgen_ports.proofs.InputPorts.{some_bits}
-use Rattle.opgen_saturate.specs.Saturates.{AreFormats}
-use Rattle.opgen_saturate.proofs.Lowest.{Made}
+use Rattle.opgen_saturate.specs.Converts.{AreFormats, Becomes}
+use Rattle.opgen_saturate.proofs.Lowest.{Made, node-held}
 use Rattle.opgen_saturate.proofs.Whole.{all_made}
 
-module _ (net : Net) (from : Slice) (format to : Format) (valid : IsValid net) (lies : LiesWithin (widths net.nodes) from)
+module _ (overflow : Overflow) (net : Net) (from : Slice) (format to : Format) (valid : IsValid net) (lies : LiesWithin (widths net.nodes) from)
     (wide : slice_width from ≡ format.width) (from_width : IsWidthOf format.signed format.width)
     (to_width : IsWidthOf to.signed to.width) where
   abbrev given : List WordBit
@@ -56,16 +56,16 @@ module _ (net : Net) (from : Slice) (format to : Format) (valid : IsValid net) (
   }
 
   abbrev made : Placed
-  made = with_slice from format to net
+  made = with_slice overflow from format to net
 
-  all : Made first.net first.place format to made
-  all = all_made first.net first.place format to first-later.valid first-are
+  all : Made overflow first.net first.place format to made
+  all = all_made overflow first.net first.place format to first-later.valid first-are
 
   pub slice-later : Later net made.net
   slice-later = later-then net first.net made.net first-later all.later
 
   pub slice-width : slice_index (widths made.net.nodes) made.place ≡ to.width
-  slice-width = all.saturates.width
+  slice-width = all.converts.width
 
   pub slice-lies : LiesWithin (widths made.net.nodes) (whole to.width made.place)
   slice-lies = (omega arith, omega (arith, slice-width, some_bits to.signed to.width to_width.0))
@@ -78,15 +78,24 @@ module _ (net : Net) (from : Slice) (format to : Format) (valid : IsValid net) (
         (omega (arith, lies.0, lies.1, wide, flow-width net valid inputs words from.node t))
         ∙ ap (λ n. take n (drop from.low (flow net.nodes inputs from.node t))) (sym wide)
 
-    pub slice-number : val (slice_flow made.net.nodes inputs (whole to.width made.place) t) to
-        ≡ saturated to (val (slice_flow net.nodes inputs from t) format)
+    later-words : All (AreWords (input_widths first.net)) inputs
+    later-words = words-later net first.net first-later inputs words
+
+    -- the slice has a number of its format
+    pub slice-held : Holds format.signed format.width (val (slice_flow net.nodes inputs from t) format)
+    slice-held =
+        subst (λ w. Holds format.signed format.width (val w format)) first-flow
+        (node-held first.net first.place format to first-later.valid first-are inputs t later-words)
+
+    pub slice-number : Becomes overflow to (val (slice_flow net.nodes inputs from t) format)
+        (val (slice_flow made.net.nodes inputs (whole to.width made.place) t) to)
     slice-number =
         let v = flow made.net.nodes inputs made.place t in
+        let old = val (slice_flow net.nodes inputs from t) format in
         let long : length v ≡ to.width = flow-width made.net slice-later.valid inputs (words-later net made.net slice-later inputs words) made.place t
         ∙ slice-width in
-        ap (λ w. val w to) (all-bits v to.width (some_bits to.signed to.width to_width.0) long)
-        ∙ all.saturates.number inputs t (words-later net first.net first-later inputs words)
-        ∙ ap (λ w. saturated to (val w format)) first-flow
+        subst (λ w. Becomes overflow to old (val w to)) (sym (all-bits v to.width (some_bits to.signed to.width to_width.0) long))
+        (subst (λ w. Becomes overflow to (val w format) (val v to)) first-flow (all.converts.number inputs t later-words))
 
 abbrev one_port : List ℕ → ℕ → List (List ℕ × ℕ)
 one_port name width = (name, width) ∷ []
@@ -98,25 +107,25 @@ bare net = record net { outputs = [] }
 pub bare-valid : (net : Net) → IsValid net → IsValid (bare net)
 bare-valid net valid = record { nodes = valid.nodes; inputs = valid.inputs; outputs = All-nil (λ o. LiesWithin (widths net.nodes) o.from) }
 
-module _ (net : Net) (o : Output) (format to : Format) (valid : IsValid net) (lies : LiesWithin (widths net.nodes) o.from)
+module _ (overflow : Overflow) (net : Net) (o : Output) (format to : Format) (valid : IsValid net) (lies : LiesWithin (widths net.nodes) o.from)
     (wide : slice_width o.from ≡ format.width) (from_width : IsWidthOf format.signed format.width)
     (to_width : IsWidthOf to.signed to.width) where
   abbrev base : Net
   base = bare net
 
   abbrev shown : Net
-  shown = saturated_output o format to base
+  shown = converted_output overflow o format to base
 
   abbrev step : Placed
-  step = with_slice o.from format to base
+  step = with_slice overflow o.from format to base
 
   later : Later base step.net
-  later = slice-later base o.from format to (bare-valid net valid) lies wide from_width to_width
+  later = slice-later overflow base o.from format to (bare-valid net valid) lies wide from_width to_width
 
   pub shown-valid : IsValid shown
   shown-valid =
       valid-output step.net (record { name = o.name; from = whole to.width step.place }) later.valid
-      (slice-lies base o.from format to (bare-valid net valid) lies wide from_width to_width)
+      (slice-lies overflow base o.from format to (bare-valid net valid) lies wide from_width to_width)
 
   pub shown-passes : (most : ℕ) → PassesAtMost most net.nodes → PassesAtMost most shown.nodes
   shown-passes = grown-passes base step.net later.grown
@@ -124,8 +133,8 @@ module _ (net : Net) (o : Output) (format to : Format) (valid : IsValid net) (li
   outputs-are : shown.outputs ≡ record { name = o.name; from = whole to.width step.place } ∷ []
   outputs-are = ap (λ os. os ++ record { name = o.name; from = whole to.width step.place } ∷ []) later.grown.outputs
 
-  pub shown-saturates : net.outputs ≡ o ∷ [] → SaturatesOutput net format to shown
-  shown-saturates only = record {
+  pub shown-converts : net.outputs ≡ o ∷ [] → ConvertsOutput overflow net format to shown
+  shown-converts only = record {
     inputs = later.grown.inputs;
     outputs =
         let width : slice_width (whole to.width step.place) ≡ to.width = omega (arith, some_bits to.signed to.width to_width.0) in
@@ -134,30 +143,40 @@ module _ (net : Net) (o : Output) (format to : Format) (valid : IsValid net) (li
         ∙ ap (map (port_in to)) (sym only);
     number = λ inputs t words.
         let word = λ (n : Net) (os : List Output). first_word (record n { outputs = os }) inputs t in
-        ap (λ os. val (word shown os) to) outputs-are
-        ∙ slice-number base o.from format to (bare-valid net valid) lies wide from_width to_width inputs t words
-        ∙ ap (λ os. saturated to (val (word net os) format)) (sym only);
+        subst (λ os. Becomes overflow to (val (word net os) format) (val (word shown shown.outputs) to)) (sym only)
+        (subst (λ os. Becomes overflow to (val (word net (o ∷ [])) format) (val (word shown os) to)) (sym outputs-are)
+        (slice-number overflow base o.from format to (bare-valid net valid) lies wide from_width to_width inputs t words));
   }
 
--- a net with one output
-pub record IsSaturated (net : Net) (format to : Format) (made : Net) : Type 0 where
+  pub shown-held : net.outputs ≡ o ∷ [] → (inputs : Inputs) (t : ℤ) → All (AreWords (input_widths net)) inputs
+      → Holds format.signed format.width (val (first_word net inputs t) format)
+  shown-held only inputs t words =
+      subst (λ os. Holds format.signed format.width (val (first_word (record net { outputs = os }) inputs t) format)) (sym only)
+      (slice-held overflow base o.from format to (bare-valid net valid) lies wide from_width to_width inputs t words)
+
+-- a net with one output, which has a number of its format
+pub record IsConverted (overflow : Overflow) (net : Net) (format to : Format) (made : Net) : Type 0 where
   pub valid : IsValid made
   pub passes : (most : ℕ) → PassesAtMost most net.nodes → PassesAtMost most made.nodes
-  pub saturates : SaturatesOutput net format to made
+  pub converts : ConvertsOutput overflow net format to made
+  pub held :
+      (inputs : Inputs) (t : ℤ) → All (AreWords (input_widths net)) inputs
+      → Holds format.signed format.width (val (first_word net inputs t) format)
 
-pub net_saturated : (net : Net) (format to : Format) → IsValid net → AreOutputFormats net format to
-    → IsSaturated net format to (saturated_net format to net)
-net_saturated net format to valid are = go net.outputs refl are.one are.wide valid.outputs
+pub net_converted : (overflow : Overflow) (net : Net) (format to : Format) → IsValid net → AreOutputFormats net format to
+    → IsConverted overflow net format to (converted_net overflow format to net)
+net_converted overflow net format to valid are = go net.outputs refl are.one are.wide valid.outputs
   where
     go : (os : List Output) → net.outputs ≡ os → length os ≡ 1 → All (λ o. slice_width o.from ≡ format.width) os
-        → All (λ o. LiesWithin (widths net.nodes) o.from) os → IsSaturated net format to (saturated_outputs os format to net)
+        → All (λ o. LiesWithin (widths net.nodes) o.from) os → IsConverted overflow net format to (converted_outputs overflow os format to net)
     go [] e one wide lies = absurd (omega (arith, one))
     go (o ∷ p ∷ os) e one wide lies = absurd (omega (arith, one))
     go (o ∷ []) e one wide lies =
         let width = All-head (λ p. slice_width p.from ≡ format.width) o [] wide in
         let within = All-head (λ p. LiesWithin (widths net.nodes) p.from) o [] lies in
         record {
-          valid = shown-valid net o format to valid within width are.from_width are.to_width;
-          passes = shown-passes net o format to valid within width are.from_width are.to_width;
-          saturates = shown-saturates net o format to valid within width are.from_width are.to_width e;
+          valid = shown-valid overflow net o format to valid within width are.from_width are.to_width;
+          passes = shown-passes overflow net o format to valid within width are.from_width are.to_width;
+          converts = shown-converts overflow net o format to valid within width are.from_width are.to_width e;
+          held = shown-held overflow net o format to valid within width are.from_width are.to_width e;
         }

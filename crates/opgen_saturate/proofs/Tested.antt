@@ -9,7 +9,7 @@ use Rattle.opgen_net.specs.Valid.{IsValid, input_widths, widths}
 use Rattle.opgen_net.proofs.FlowLaws.{length-widths}
 use Rattle.opgen_net.proofs.Later.{Later, later-then, words-later}
 use Rattle.opgen_saturate.specs.Recipe.{is_wider, first_dropped, followed, with_row, joins, with_test, last_place}
-use Rattle.opgen_saturate.specs.Saturates.{AreFormats, AreBits}
+use Rattle.opgen_saturate.specs.Converts.{AreFormats, AreBits}
 use Rattle.opgen_saturate.proofs.Bits.{any_at}
 use Rattle.opgen_saturate.proofs.Decision.{dropped-within}
 use Rattle.opgen_saturate.proofs.Joins.{IsJoined, joins-made}

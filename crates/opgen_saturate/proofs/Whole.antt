@@ -1,7 +1,9 @@
--- The nodes of the step: they stand in a valid net, and the last has the number that is brought into the range.
+-- The nodes of the step: they stand in a valid net, and the last has the number that is brought into the range, or wraps.
 use Rattle.std.proofs.Common.{◌≡◌, ℕ, ◌-◌, ◌<◌, ◌≤◌, cond, Bool, true, false, List, [], ◌∷◌, length, if◌then◌else◌, refl, sym, ap, ◌∙◌, subst, arith}
 use Rattle.std.specs.Prelude.{ℤ, All, slice_index}
 use Rattle.opgen_num.specs.declared.format.Format.{Format}
+use Rattle.opgen_num.specs.declared.mode.Overflow.{Overflow}
+use Rattle.opgen_num.specs.declared.mode.Overflow.TheVariants.{Saturate, Wrap}
 use Rattle.opgen_num.specs.Formats.{Holds}
 use Rattle.opgen_num.specs.Words.{val}
 use Rattle.opgen_design.specs.Run.{AreWords}
@@ -18,8 +20,8 @@ use Rattle.opgen_net.proofs.Grown.{grown-flow, grown-width}
 use Rattle.opgen_net.proofs.Later.{Later, later-then, later-node, node_there, words-later}
 use Rattle.opgen_net.proofs.WordLaws.{all-bits}
 use Rattle.opgen_ports.specs.Good.{saturated}
-use Rattle.opgen_saturate.specs.Recipe.{is_wider, resized, least_word, greatest_word, last_place, with_test, with_limit, with_choice, with_saturated}
-use Rattle.opgen_saturate.specs.Saturates.{AreFormats}
+use Rattle.opgen_saturate.specs.Recipe.{is_wider, resized, least_word, greatest_word, last_place, with_test, with_limit, with_choice, with_saturated, with_converted}
+use Rattle.opgen_saturate.specs.Converts.{AreFormats}
 use Rattle.opgen_saturate.proofs.Ends.{least_is, greatest_is}
 use Rattle.opgen_ports.proofs.Clamped.{in_order}
 use Rattle.opgen_ports.proofs.InputPorts.{some_bits}
@@ -27,7 +29,7 @@ use Rattle.opgen_saturate.proofs.Limit.{HasLimit, has_limit}
 use Rattle.opgen_saturate.proofs.Outside.{is_outside, is_below_zero, tells}
 use Rattle.opgen_saturate.proofs.Decision.{decided}
 use Rattle.opgen_saturate.proofs.Tested.{tested-later, tested-some, test-wide, test-tells}
-use Rattle.opgen_saturate.proofs.Lowest.{Made, low-later, low-width, low-long, low-number, wider}
+use Rattle.opgen_saturate.proofs.Lowest.{Made, low-later, low-width, low-long, low-number, wider, wrapped}
 
 -- where it is not
 module _ (net : Net) (node : ℕ) (format to : Format) (valid : IsValid net) (are : AreFormats net node format to)
@@ -183,20 +185,25 @@ module _ (net : Net) (node : ℕ) (format to : Format) (valid : IsValid net) (ar
         ∙ decided to (val v format) (in_order to.signed m) (least_is to are.to_width) (greatest_is to are.to_width) low_word low-kept
         test (is_below_zero v format) (tells v format to v-long are.from_width are.to_width narrow)
 
-  pub narrower : Made net node format to (with_choice node format to net)
+  pub narrower : Made Saturate net node format to (with_choice node format to net)
   narrower = record {
     later = made-later;
-    saturates = record {
+    converts = record {
       width = width-append_last low.net.nodes last ∙ omega (arith, some);
       number = number;
     };
   }
 
-pub all_made : (net : Net) (node : ℕ) (format to : Format) → IsValid net → AreFormats net node format to
-    → Made net node format to (with_saturated node format to net)
-all_made net node format to valid are = go (is_wider format to) refl
+all_saturated : (net : Net) (node : ℕ) (format to : Format) → IsValid net → AreFormats net node format to
+    → Made Saturate net node format to (with_saturated node format to net)
+all_saturated net node format to valid are = go (is_wider format to) refl
   where
     go : (c : Bool) → is_wider format to ≡ c
-        → Made net node format to (if c then with_bits net (resized node format to.width) else with_choice node format to net)
+        → Made Saturate net node format to (if c then with_bits net (resized node format to.width) else with_choice node format to net)
     go true h = wider net node format to valid are h
     go false h = narrower net node format to valid are h
+
+pub all_made : (overflow : Overflow) (net : Net) (node : ℕ) (format to : Format) → IsValid net → AreFormats net node format to
+    → Made overflow net node format to (with_converted overflow node format to net)
+all_made Saturate net node format to valid are = all_saturated net node format to valid are
+all_made Wrap net node format to valid are = wrapped net node format to valid are

@@ -1,7 +1,9 @@
--- Worked cases of the step on nets: three times a number of 4 bits, in 6 bits, brought into 4 bits; numbers of 16 bits brought into 4,
--- and of 80 into 8; and how deep the test of so many bits is.
+-- Worked cases of the step on nets: three times a number of 4 bits, in 6 bits, brought into 4 bits, and wrapped in 4; numbers of 16 bits
+-- brought into 4, and of 80 into 8; and how deep the test of so many bits is.
 use Rattle.std.specs.Prelude.{◌≡◌, refl, ℕ, zero, suc, ◌+◌, ◌-◌, ◌^◌, max, Bool, true, false, ◌&&◌, ◌||◌, nat_le, nat_lt, List, [], ◌∷◌, ◌++◌, drop, slice_index, pos, codes}
 use Rattle.opgen_num.specs.declared.format.Format.{Format}
+use Rattle.opgen_num.specs.declared.mode.Overflow.{Overflow}
+use Rattle.opgen_num.specs.declared.mode.Overflow.TheVariants.{Saturate, Wrap}
 use Rattle.opgen_num.specs.Words.{nat, word}
 use Rattle.opgen_design.specs.declared.expr.Op.TheVariants.{Or}
 use Rattle.opgen_design.specs.Tree.{Tree, Trees, name, part, inverse, chain, none, more}
@@ -10,7 +12,7 @@ use Rattle.opgen_net.specs.declared.net.Net.{Net}
 use Rattle.opgen_net.specs.declared.node.Node.{Node}
 use Rattle.opgen_net.specs.declared.node.Node.TheVariants.{Input, Cells}
 use Rattle.opgen_net.specs.Flow.{flow}
-use Rattle.opgen_saturate.specs.Recipe.{differs, with_tree, last_place, with_saturated}
+use Rattle.opgen_saturate.specs.Recipe.{differs, with_tree, last_place, with_converted}
 
 abbrev format_of : (signed : Bool) (width : ℕ) → Format
 format_of signed width = record { signed = signed; width = width; lsb = pos 0 }
@@ -19,11 +21,50 @@ format_of signed width = record { signed = signed; width = width; lsb = pos 0 }
 abbrev input : (width : ℕ) → Net
 input width = record { inputs = (codes "a", width) ∷ []; nodes = Input 0 width ∷ []; outputs = [] }
 
--- what a number becomes
-abbrev becomes : (from to : Format) → ℕ → ℕ
-becomes from to n =
-    let made = with_saturated 0 from to (input from.width) in
+-- what a number becomes, as the number of its word
+abbrev converted : Overflow → (from to : Format) → ℕ → ℕ
+converted overflow from to n =
+    let made = with_converted overflow 0 from to (input from.width) in
     nat (flow made.net.nodes ((word from.width n ∷ []) ∷ []) made.place (pos 0))
+
+abbrev becomes : (from to : Format) → ℕ → ℕ
+becomes from to n = converted Saturate from to n
+
+abbrev wraps : (from to : Format) → ℕ → ℕ
+wraps from to n = converted Wrap from to n
+
+-- wrapped, unsigned: three times 5, 6 and 15 are 15, 2 and 13
+wraps_15 : wraps (format_of false 6) (format_of false 4) 15 ≡ 15
+wraps_15 = refl
+
+wraps_18 : wraps (format_of false 6) (format_of false 4) 18 ≡ 2
+wraps_18 = refl
+
+wraps_45 : wraps (format_of false 6) (format_of false 4) 45 ≡ 13
+wraps_45 = refl
+
+-- wrapped, signed: -24, -9 and 21 (in 6 bits 40, 55 and 21) are -8, 7 and 5 (in 4 bits 8, 7 and 5), and 7 as well where no sign is read
+wraps_least_24 : wraps (format_of true 6) (format_of true 4) 40 ≡ 8
+wraps_least_24 = refl
+
+wraps_negative_9 : wraps (format_of true 6) (format_of true 4) 55 ≡ 7
+wraps_negative_9 = refl
+
+wraps_positive_21 : wraps (format_of true 6) (format_of true 4) 21 ≡ 5
+wraps_positive_21 = refl
+
+wraps_without_sign : wraps (format_of true 6) (format_of false 4) 55 ≡ 7
+wraps_without_sign = refl
+
+-- wrapped, in more bits: 45 stays, with a sign and without; -9 is -9 (in 8 bits 247), and 247 where no sign is read
+wraps_in_8 : wraps (format_of false 6) (format_of true 8) 45 ≡ 45
+wraps_in_8 = refl
+
+wraps_negative_in_8 : wraps (format_of true 6) (format_of true 8) 55 ≡ 247
+wraps_negative_in_8 = refl
+
+wraps_around_in_8 : wraps (format_of true 6) (format_of false 8) 55 ≡ 247
+wraps_around_in_8 = refl
 
 -- unsigned: 3, 15 and 45 are 3, 15 and 15, and 8 bits hold 45
 unsigned_3 : becomes (format_of false 6) (format_of false 4) 3 ≡ 3

@@ -1,7 +1,8 @@
--- Definitions of opgen_saturate: the law of saturation, the nodes that bring a number into a range, and the net of a chosen width.
+-- Definitions of opgen_saturate: the laws of saturation and of wrapping, the nodes that give a number another format, and the net of a
+-- chosen width.
 pub mod Law
 pub mod Recipe
-pub mod Saturates
+pub mod Converts
 pub mod Output
 pub mod Cases
 pub mod Chosen

@@ -5,14 +5,14 @@ ghost use Rattle.opgen_operator.specs.Fits.{FitsInEachMode, FitsSpec};
 ghost use Rattle.opgen_operator.specs.Valid.{IsValidSpec};
 ghost use Rattle.opgen_saturate.specs.Chosen.{cut_net};
 
-use crate::output::saturate_output;
+use crate::output::convert_output;
 use opgen_net::Net;
 use opgen_num::Memory;
 use opgen_operator::Spec;
 use std::alloc::Global;
 
 /// Makes the net of an operator that of a specification: if this chooses a width for the output, the
-/// output is brought into its range. If memory runs out, the net is valid.
+/// output is brought into its range, or wraps. If memory runs out, the net is valid.
 pub fn cut_output(alloc: Global, net: &mut Net, spec: &Spec) -> Result<(), Memory>
     requires valid { IsValidSpec spec.now }
     requires fits { FitsInEachMode spec.now.op net.old }
@@ -21,7 +21,7 @@ pub fn cut_output(alloc: Global, net: &mut Net, spec: &Spec) -> Result<(), Memor
     ensures fits { OnOk result (FitsSpec spec.now net.new) }
 {
     match spec.cut() {
-        Some(cut) => saturate_output(alloc, net, cut.from, cut.to),
+        Some(cut) => convert_output(alloc, net, spec.overflow, cut.from, cut.to),
         None => Ok(()),
     }
 }

@@ -4,12 +4,12 @@ ghost use Rattle.opgen_num.specs.Formats.{IsWidthOf};
 ghost use Rattle.opgen_net.specs.Placed.{with_bits};
 ghost use Rattle.opgen_net.specs.Valid.{IsValid, LiesWithin, slice_width, widths};
 ghost use Rattle.opgen_net.specs.WordRule.{bits_from};
-ghost use Rattle.opgen_saturate.specs.Output.{AreOutputFormats, SaturatesOutput, with_slice, saturated_net};
+ghost use Rattle.opgen_saturate.specs.Output.{AreOutputFormats, ConvertsOutput, with_slice, converted_net};
 
-use crate::step::{saturate, whole};
+use crate::step::{saturate, whole, wrap};
 use opgen_list::Items;
 use opgen_net::{Net, Output, Slice, push_bits};
-use opgen_num::{Format, Memory};
+use opgen_num::{Format, Memory, Overflow};
 use std::alloc::Global;
 
 // A node of the bits of a slice.
@@ -27,10 +27,11 @@ fn node_of(alloc: Global, net: &mut Net, from: Slice, width: u32) -> Result<usiz
     net.word(bits.as_slice())
 }
 
-// Appends what brings a slice into the range, and answers the node of the other format.
-fn saturate_slice(
+// Appends what gives a slice the other format, and answers the node of that.
+fn convert_slice(
     alloc: Global,
     net: &mut Net,
+    overflow: Overflow,
     from: Slice,
     format: Format,
     to: Format,
@@ -40,33 +41,38 @@ fn saturate_slice(
     requires all { slice_width from ≡ format.width }
     requires from { IsWidthOf format.signed format.width }
     requires to { IsWidthOf to.signed to.width }
-    ensures ok { OnOk result (net.new ≡ (with_slice from format to net.old).net) }
-    ensures place { IfOk result (λ n. n ≡ (with_slice from format to net.old).place) }
+    ensures ok { OnOk result (net.new ≡ (with_slice overflow from format to net.old).net) }
+    ensures place { IfOk result (λ n. n ≡ (with_slice overflow from format to net.old).place) }
     ensures valid { IsValid net.new }
 {
     let node = node_of(alloc, net, from, format.width)?;
-    saturate(alloc, net, node, format, to)
+    match overflow {
+        Overflow::Saturate => saturate(alloc, net, node, format, to),
+        Overflow::Wrap => wrap(alloc, net, node, format, to),
+    }
 }
 
-/// Brings the only output of a net into the range of another format. The inputs stay.
+/// Gives the only output of a net another format: a number that this does not hold becomes its least or
+/// greatest, or wraps. The inputs stay.
 ///
 /// `format` is that in which the output is read. If memory runs out, the net is valid.
-pub fn saturate_output(
+pub fn convert_output(
     alloc: Global,
     net: &mut Net,
+    overflow: Overflow,
     format: Format,
     to: Format,
 ) -> Result<(), Memory>
     requires net { IsValid net.old }
     requires formats { AreOutputFormats net.old format to }
-    ensures ok { OnOk result (net.new ≡ saturated_net format to net.old) }
+    ensures ok { OnOk result (net.new ≡ converted_net overflow format to net.old) }
     ensures valid { IsValid net.new }
-    ensures saturates { OnOk result (SaturatesOutput net.old format to net.new) }
+    ensures converts { OnOk result (ConvertsOutput overflow net.old format to net.new) }
 {
     let Some(output) = net.outputs.pop() else {
         return Ok(());
     };
-    let place = saturate_slice(alloc, net, output.from, format, to)?;
+    let place = convert_slice(alloc, net, overflow, output.from, format, to)?;
     net.outputs.push(Output {
         name: output.name,
         from: whole(to.width, place),

@@ -1,12 +1,13 @@
-//! The step: the test, the limit and the choice.
+//! The step: the test, the limit and the choice; and the lowest bits alone.
 ghost use Rattle.std.specs.Prelude.{◌≡◌, ◌+◌, ◌++◌, ◌<◌, ◌≤◌, ◌^◌, false, IfOk, OnOk, replicate};
 ghost use Rattle.opgen_num.specs.declared.format.TheConstants.{MAX_WIDTH};
+ghost use Rattle.opgen_num.specs.declared.mode.Overflow.TheVariants.{Saturate, Wrap};
 ghost use Rattle.opgen_num.specs.Formats.{IsWidthOf};
 ghost use Rattle.opgen_net.specs.Flow.{KeepsFlow};
 ghost use Rattle.opgen_net.specs.Placed.{whole};
 ghost use Rattle.opgen_net.specs.Valid.{IsValid};
-ghost use Rattle.opgen_saturate.specs.Recipe.{is_wider, resized, least_word, greatest_word, with_limit, with_choice, with_saturated};
-ghost use Rattle.opgen_saturate.specs.Saturates.{AreFormats, Saturates};
+ghost use Rattle.opgen_saturate.specs.Converts.{AreFormats, Converts};
+ghost use Rattle.opgen_saturate.specs.Recipe.{is_wider, resized, least_word, greatest_word, with_limit, with_choice, with_saturated, with_wrapped};
 
 use crate::test::{bit, counting, is_wider};
 use crate::tree::test;
@@ -99,6 +100,31 @@ fn limit(net: &mut Net, node: usize, format: Format, to: Format) -> Result<usize
     net.choice(sign, whole(to.width, least), whole(to.width, greatest))
 }
 
+/// Appends a node whose number is that of another node, modulo two to the power of the width of
+/// another format, and answers it.
+///
+/// It has the lowest bits of the node, and above its highest bit copies of its sign, or zeros. If
+/// memory runs out, the net is valid.
+pub fn wrap(
+    alloc: Global,
+    net: &mut Net,
+    node: usize,
+    format: Format,
+    to: Format,
+) -> Result<usize, Memory>
+    requires net { IsValid net.old }
+    requires formats { AreFormats net.old node format to }
+    ensures ok { OnOk result (net.new ≡ (with_wrapped node format to net.old).net) }
+    ensures place { IfOk result (λ n. n ≡ (with_wrapped node format to net.old).place) }
+    ensures valid { IsValid net.new }
+    ensures flow { OnOk result (KeepsFlow net.old.nodes net.new.nodes) }
+    ensures wraps { IfOk result (Converts Wrap net.old node format to net.new) }
+{
+    let bits = resized(alloc, node, format, to.width)?;
+    let place = net.word(bits.as_slice())?;
+    Ok(place)
+}
+
 // The nodes of a format that does not hold every number.
 fn choose(
     alloc: Global,
@@ -116,8 +142,7 @@ fn choose(
 {
     let test = test(alloc, net, node, format, to)?;
     let limit = limit(net, node, format, to)?;
-    let bits = resized(alloc, node, format, to.width)?;
-    let low = net.word(bits.as_slice())?;
+    let low = wrap(alloc, net, node, format, to)?;
     net.choice(test, whole(to.width, limit), whole(to.width, low))
 }
 
@@ -136,8 +161,7 @@ fn append(
     ensures valid { IsValid net.new }
 {
     if is_wider(format, to) {
-        let bits = resized(alloc, node, format, to.width)?;
-        return net.word(bits.as_slice());
+        return wrap(alloc, net, node, format, to);
     }
     choose(alloc, net, node, format, to)
 }
@@ -163,7 +187,7 @@ pub fn saturate(
     ensures place { IfOk result (λ n. n ≡ (with_saturated node format to net.old).place) }
     ensures valid { IsValid net.new }
     ensures flow { OnOk result (KeepsFlow net.old.nodes net.new.nodes) }
-    ensures saturates { IfOk result (Saturates net.old node format to net.new) }
+    ensures saturates { IfOk result (Converts Saturate net.old node format to net.new) }
 {
     let place = append(alloc, net, node, format, to)?;
     Ok(place)

@@ -5,7 +5,7 @@ ghost use Rattle.opgen_net.specs.declared.node.Node.TheVariants.{Cells};
 ghost use Rattle.opgen_net.specs.Placed.{with_last};
 ghost use Rattle.opgen_net.specs.Valid.{IsValid, widths};
 ghost use Rattle.opgen_saturate.specs.Recipe.{is_wider, stride, followed, with_row, any_node, joins, share, with_joins, with_test, last_place};
-ghost use Rattle.opgen_saturate.specs.Saturates.{AreFormats, AreBits};
+ghost use Rattle.opgen_saturate.specs.Converts.{AreFormats, AreBits};
 
 use crate::test::{any_node, differs, first_dropped};
 use opgen_net::{Class, Net};

@@ -31,8 +31,8 @@ fn later(one: Slot, other: Slot) -> Slot
     if one.time < other.time { other } else { one }
 }
 
-// The latest slot of some nodes.
-fn latest(slots: &[Slot], nodes: &[usize]) -> Slot
+/// The latest slot of some nodes.
+pub(crate) fn latest(slots: &[Slot], nodes: &[usize]) -> Slot
     requires { All (λ j. j < length slots.now) nodes.now }
     ensures { result ≡ latest start slots.now nodes.now }
 {

@@ -13,14 +13,16 @@ use Rattle.opgen_document.proofs.Values.{IsFlag, flag_stands, count_written}
 use Rattle.opgen_entries.specs.kinds.{kind_of, entry}
 use Rattle.opgen_spec.proofs.Fine.{AreFine, IsFine, typed, there_inside, own_range}
 use Rattle.opgen_spec.proofs.Known.{allowed, width_key}
-use Rattle.opgen_spec.proofs.Versions.{third_is_three, not_fourth}
+use Rattle.opgen_spec.proofs.Versions.{late}
 use Rattle.opgen_spec.proofs.sound.Sound.{IsChosen}
 use Rattle.opgen_spec.proofs.sound.All.{sound}
 
 -- a width that is there
 chosen : (ms : Members) (one : Kind) → AreFine ms → kind_of ms ≡ Some one → (d : Data) → value_at ms key.OutWidth ≡ Some d
     → IsChosen one (version_of ms)
-chosen ms one f e d some = (sound one).chosen (version_of ms) (not_fourth ms f) (allowed ms one key.OutWidth f e width_key refl (ap is_some some))
+chosen ms one f e d some =
+    let there = ap is_some some in
+    (sound one).chosen ms f e (allowed ms one key.OutWidth f e width_key refl there) there
 
 width_fine : (ms : Members) (one : Kind) → AreFine ms → kind_of ms ≡ Some one → (d : Data) → value_at ms key.OutWidth ≡ Some d
     → IsFine ms key.OutWidth (out_width_outside ms)
@@ -66,7 +68,7 @@ choice ms one f e = by (value_at ms key.OutWidth) refl
         let is = chosen ms one f e d some in
         let (least, most) = inside (pos 2) (pos 96) (number_at ms key.OutWidth) (width_fine ms one f e d some).within in
         let (fewest, few) = counted (number_at ms key.OutWidth) 2 96 least most (omega arith) in
-        (third_is_three ms f is.third, is.value ms, fewest, few)
+        (late ms f is.late, is.value ms, fewest, few)
 
 pub width_written : (ms : Members) (one : Kind) → AreFine ms → kind_of ms ≡ Some one
     → IsCountIfAny ms key.OutWidth (optional_count_at ms key.OutWidth)

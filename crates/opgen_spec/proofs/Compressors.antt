@@ -1,4 +1,4 @@
--- The compressor of a document without a fault: it has none, or one of the two, in another version than the first.
+-- The compressor of a document without a fault: it has none, or one of heaps of bits, in another version than the first.
 use Rattle.std.proofs.Common.{◌≡◌, ℕ, ◌||◌, ◌⊎◌, ⊎_elim, inl, inr, not, Bool, true, false, List, length, Option, Some, None, is_some, option_and_then, subst, refl, ap, sym, ◌∙◌, if◌then◌else◌}
 use Rattle.std.specs.Prelude.{pos, codes, IsTrue}
 use Rattle.std.specs.Option.{option_map_or}
@@ -16,9 +16,11 @@ use Rattle.opgen_document.specs.Ranges.{compressor_outside, compressor_outside_i
 use Rattle.opgen_ports.specs.Recipes.{compressor_of, has_counters, is_of_bits}
 use Rattle.opgen_ports.proofs.Marks.{has_counters-of, of_bits}
 use Rattle.opgen_entries.specs.kinds.{kind_of, entry}
+use Rattle.opgen_spec.specs.Made.{is_heap, is_kind_made}
 use Rattle.opgen_spec.proofs.Fine.{AreFine, typed, own_range}
 use Rattle.opgen_spec.proofs.Known.{allowed, compressor_key}
-use Rattle.opgen_spec.proofs.Versions.{not_fourth}
+use Rattle.opgen_spec.proofs.Made.{kind_made}
+use Rattle.opgen_spec.proofs.Versions.{fourth_or}
 
 -- a compressor that is there
 pub record IsTaken (ms : Members) : Type 0 where
@@ -30,6 +32,8 @@ pub record IsTaken (ms : Members) : Type 0 where
 pub record IsLater (one : Kind) : Type 0 where
   pub stands : (version : Version) → (entry one).stand version key.Compressor ≡ since_second version
   pub range : (ms : Members) → (entry one).key_outside ms key.Compressor ≡ compressor_at_outside ms
+  -- no circuits are made yet of rows
+  pub heap : (ms : Members) → is_kind_made one ms ≡ true → is_heap ms ≡ true
 
 not_first : (version : Version) → may_be (since_second version) ≡ true → version ≡ First → ⊥
 not_first First may is = cc
@@ -37,12 +41,25 @@ not_first Second may is = cc
 not_first Third may is = cc
 not_first Fourth may is = cc
 
--- the versions that are open have two compressors
-two_open : (version : Version) (name : List ℕ) → (version ≡ Fourth → ⊥) → compressor_outside_in version name ≡ compressor_outside name
-two_open First name closed = refl
-two_open Second name closed = refl
-two_open Third name closed = refl
-two_open Fourth name closed = absurd (closed refl)
+-- other versions than the fourth have two compressors, and of those of the fourth two are made
+two_before : (version : Version) (name : List ℕ) → (version ≡ Fourth → ⊥) → compressor_outside_in version name ≡ compressor_outside name
+two_before First name other = refl
+two_before Second name other = refl
+two_before Third name other = refl
+two_before Fourth name other = absurd (other refl)
+
+nothing_outside : {A B : Type 0} (o : Option A) (x : Option B) → x ≡ None → option_and_then (λ _. x) o ≡ None
+nothing_outside None x none = refl
+nothing_outside (Some a) x none = none
+
+ranged_in : (ms : Members) (one : Kind) → AreFine ms → kind_of ms ≡ Some one → IsLater one
+    → option_and_then (λ _. compressor_outside (text_at ms key.Compressor)) (value_at ms key.Compressor) ≡ None
+ranged_in ms one f e is =
+    ⊎_elim (λ (fourth : version_of ms ≡ Fourth). nothing_outside (value_at ms key.Compressor) (compressor_outside (text_at ms key.Compressor))
+    (ap (λ b. if b then None else Some (pos (length (text_at ms key.Compressor)))) (is.heap ms (kind_made ms one f e fourth))))
+    (λ (other : version_of ms ≡ Fourth → ⊥). ap (λ x. option_and_then (λ _. x) (value_at ms key.Compressor))
+    (sym (is.range ms ∙ two_before (version_of ms) (text_at ms key.Compressor) other)) ∙ own_range ms one key.Compressor f e refl)
+    (fourth_or (version_of ms))
 
 taken : (ms : Members) (one : Kind) → AreFine ms → kind_of ms ≡ Some one → IsLater one
     → is_some (value_at ms key.Compressor) ≡ true → IsTaken ms
@@ -51,8 +68,7 @@ taken ms one f e is there =
     record {
       later = not_first (version_of ms) (ap may_be (sym (is.stands (version_of ms))) ∙ may);
       typed = typed ms key.Compressor f refl;
-      ranged = ap (λ x. option_and_then (λ _. x) (value_at ms key.Compressor))
-          (sym (is.range ms ∙ two_open (version_of ms) (text_at ms key.Compressor) (not_fourth ms f))) ∙ own_range ms one key.Compressor f e refl;
+      ranged = ranged_in ms one f e is;
     }
 
 pub compressor_cases : (ms : Members) (one : Kind) → AreFine ms → kind_of ms ≡ Some one → IsLater one

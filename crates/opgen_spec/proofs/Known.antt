@@ -60,6 +60,10 @@ pub overflow_key : IsOnly key.Overflow
 overflow_key key.Overflow own h = refl
 overflow_key _ own h = cc
 
+pub recurrence_key : IsOnly key.Recurrence
+recurrence_key key.Recurrence own h = refl
+recurrence_key _ own h = cc
+
 pub out_lsb_key : IsOnly key.OutLsb
 out_lsb_key key.OutLsb own h = refl
 out_lsb_key _ own h = cc

@@ -2,6 +2,7 @@ mod Reading
 mod Fine
 mod ArrayLines
 mod Versions
+mod Made
 mod Known
 mod Ranges
 mod Compressors

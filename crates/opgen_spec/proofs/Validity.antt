@@ -30,7 +30,7 @@ use Rattle.opgen_spec.proofs.Fine.{AreFine, fine, passed, no_kind, map_none, pre
 use Rattle.opgen_spec.proofs.ArrayLines.{IsFineLine, IsAmong, line_fine, all_fine, lines_in, read_length, few_items}
 use Rattle.opgen_document.proofs.Ranges.{inside, counted}
 use Rattle.opgen_spec.proofs.Chosen.{choice}
-use Rattle.opgen_spec.proofs.Fourth.{no_rounding, saturates}
+use Rattle.opgen_spec.proofs.Fourth.{no_rounding, overflow_valid}
 use Rattle.opgen_spec.proofs.Versions as versions
 use Rattle.opgen_spec.proofs.sound.All.{sound}
 
@@ -103,7 +103,7 @@ valid_in ms one f e h =
       mode = subst (λ rounding. IsModeOf (mode_by rounding spec.exact) spec.op) (sym (no_rounding ms one f e))
           (mode_by_mark spec.exact spec.op (s.agrees ms) (asked_exact spec exact));
       output = choice ms one f e;
-      overflow = saturates ms one f e;
+      overflow = overflow_valid ms one f e;
       target = (omega (arith, ints), omega (arith, ints));
       period = counted (number_at ms key.Period) 1 1000000 time_least time_most (omega arith);
       few_lines = omega (

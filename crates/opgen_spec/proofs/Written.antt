@@ -91,7 +91,7 @@ written ms one h e =
     let time = there_inside (value_at ms key.Period) (outside (pos 1) (pos 1000000) (number_at ms key.Period)) time_there
     (ranged ms key.Period f refl) in
     record {
-      version = count_written (value_at ms key.Version) 1 3 (present ms one key.Version f e refl refl) (typed ms key.Version f refl)
+      version = count_written (value_at ms key.Version) 1 4 (present ms one key.Version f e refl refl) (typed ms key.Version f refl)
           (bounds ms f) (omega arith);
       name = text_stands (value_at ms key.Name) (present ms one key.Name f e refl refl) (typed ms key.Name f refl);
       kind_written = text_stands (value_at ms key.Kind) (present ms one key.Kind f e refl refl) (typed ms key.Kind f refl)

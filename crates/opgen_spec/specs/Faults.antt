@@ -27,6 +27,7 @@ use Rattle.opgen_document.specs.Ranges.{outside, length_outside, bits_outside, f
 use Rattle.opgen_entries.specs.kinds.{kind_of, entry}
 use Rattle.opgen_entries.specs.kinds.Sop.{name_outside, factor_outside}
 use Rattle.opgen_entries.specs.Stands.{is_known, is_needed}
+use Rattle.opgen_spec.specs.Made.{is_made}
 use Rattle.opgen_spec.specs.Spec.{class_named, spec_of}
 
 -- the first of some faults
@@ -146,13 +147,14 @@ among_arrays check doc before (array ∷ rest) =
 abbrev pub check_fault : Check → Members → Option SpecFault
 check_fault check doc = option_or (among_keys check doc) (among_arrays check doc 0 arrays)
 
--- Bad version: none of 1, 2 and 3.
+-- Bad version: none of 1 to 4, or one of which no circuits are made as the document asks for them.
 abbrev pub is_version : ℤ → Bool
-is_version (pos n) = n == 1 || (n == 2 || n == 3)
+is_version (pos n) = n == 1 || (n == 2 || (n == 3 || n == 4))
 is_version (negsuc n) = false
 
 abbrev pub bad_version : Members → Option SpecFault
-bad_version ms = if is_version (number_at ms key.Version) then None else Some (fault.BadVersion (number_at ms key.Version))
+bad_version ms =
+    if is_version (number_at ms key.Version) && is_made ms then None else Some (fault.BadVersion (number_at ms key.Version))
 
 -- whether a specification of the version may have the name
 abbrev pub is_name_of : (version : ℕ) → (name : List ℕ) → Bool

@@ -18,6 +18,7 @@ pub enum SpecFault {
     UnknownKey { line: u64, at: u64 },
     MissingKey { key: Key, line: u64 },
     WrongType { key: Key, line: u64 },
+    /// The version is none of 1 to 4, or no circuits are made yet as the document asks for them.
     BadVersion { found: i64 },
     BadName,
     BadKind,

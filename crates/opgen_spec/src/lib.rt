@@ -1,7 +1,8 @@
 //! The reader of specifications: from the bytes of a TOML document to the specification, or to its first fault.
 //!
 //! Proved: The specification of the bytes, exactly if they have no fault; otherwise the first fault in order, with its
-//! fields. An accepted specification is valid and has the values that the document writes. How a fault prints.
+//! fields: a document of version 4 that asks for a sort of circuit that is not made yet has a fault of its version. An
+//! accepted specification is valid and has the values that the document writes. How a fault prints.
 //!
 //! By: `read_spec`, the `Display` of `SpecFault`.
 #![tactic(auto)]
@@ -14,6 +15,7 @@ mod lines;
 mod make;
 mod range;
 mod read;
+mod version;
 
 pub use fault::SpecFault;
 pub use opgen_document::Key;

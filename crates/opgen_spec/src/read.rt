@@ -2,7 +2,7 @@
 ghost use Rattle.std.specs.Prelude.{◌≡◌, IfOk, IsSomeAnd, MatchResult, Some};
 ghost use Rattle.toml.specs.View.{table_view};
 ghost use Rattle.opgen_document.specs.Document.{tree};
-ghost use Rattle.opgen_spec.specs.Faults.{bad_version, bad_name, has_kind, bad_kind, form_fault, value_fault, field_fault, read, Gives, IsNoTree};
+ghost use Rattle.opgen_spec.specs.Faults.{bad_name, has_kind, bad_kind, form_fault, value_fault, field_fault, read, Gives, IsNoTree};
 ghost use Rattle.opgen_operator.specs.Valid.{IsValidSpec};
 ghost use Rattle.opgen_spec.specs.Written.{IsAsWritten};
 
@@ -10,7 +10,8 @@ use crate::fault::SpecFault;
 use crate::limits::limit_fault;
 use crate::lines::{Check, check_fault};
 use crate::make::spec_with;
-use opgen_document::{Key, Version, count_at, number_at, parse, text_at, version_of};
+use crate::version::bad_version;
+use opgen_document::{Key, Version, count_at, parse, text_at, version_of};
 use opgen_entries::{is_first_kind, kind_of};
 use opgen_operator::{Kind, Spec, is_name_in, is_spec_name};
 use std::alloc::Global;
@@ -21,17 +22,6 @@ fn document(alloc: Global, bytes: &[u8]) -> Result<Table, SpecFault>
         (IsNoTree (tree bytes.now)) }
 {
     parse(alloc, bytes)?.ok_or(SpecFault::NotToml)
-}
-
-fn bad_version(table: &Table) -> Option<SpecFault>
-    ensures { result ≡ bad_version (table_view table.now) }
-{
-    let found = number_at(table, Key::Version);
-    if found == 1 || found == 2 || found == 3 {
-        None
-    } else {
-        Some(SpecFault::BadVersion { found })
-    }
 }
 
 fn bad_name(table: &Table) -> Option<SpecFault>

@@ -21,7 +21,7 @@ use Rattle.opgen_top.specs.Lines.{line_bytes}
 use Rattle.opgen_top.specs.Specified.{IsAnswerToSpec, IsGenerated}
 use Rattle.opgen_top.specs.Stores.{stored_all}
 use Rattle.opgen_top.specs.Targets.{Device, IsTableOf}
-use Rattle.opgen_top.proofs.Planning.{circuit_in_time, circuit_is_least, circuit_sound, circuit_spells, fitting}
+use Rattle.opgen_top.proofs.Planning.{circuit_has_few, circuit_in_time, circuit_is_least, circuit_sound, circuit_spells, fitting}
 use Rattle.opgen_top.proofs.Reported.{report-has_latency}
 use Rattle.opgen_top.proofs.SpecCases.{cases_of_spec}
 
@@ -117,5 +117,6 @@ heading serves recovers file workers enable devices files a after before now due
         cells = (fitting spec from.valid table enable planned g.adders g.circuit).fits.valid;
         in_time = circuit_in_time spec from.valid table enable planned g.adders g.circuit;
         least = circuit_is_least spec from.valid table enable planned g.adders g.circuit;
+        few = circuit_has_few spec from.valid table enable planned g.adders g.circuit;
       };
     }

@@ -3,6 +3,7 @@ pub mod Serving
 pub mod Recovering
 pub mod Planning
 pub mod Naming
+mod Made
 mod NetsFit
 mod AdderValues
 pub mod Building

@@ -25,8 +25,10 @@ use Rattle.opgen_sop.proofs.Whole as terms
 use Rattle.opgen_sqrt.proofs.Whole as roots
 use Rattle.opgen_tfir.proofs.Filters as filters
 use Rattle.opgen_top.specs.AdderGraphs.{IsGraphOf}
-use Rattle.opgen_top.specs.Circuit.{NetsFit}
+use Rattle.opgen_target.specs.Delays.{Delays}
+use Rattle.opgen_top.specs.Circuit.{IsFitting, IsNetFor, NetsFit, made_net}
 use Rattle.opgen_top.specs.Kinds.{IsNetOfOperator}
+use Rattle.opgen_top.proofs.Made.{made_fits}
 use Rattle.opgen_top.proofs.Naming.{fitting}
 
 -- the graph of some numbers serves them
@@ -60,4 +62,10 @@ operator_fits (Sop s) accepted net is = terms.fits_modes s accepted net is
 pub nets_fit : NetsFit
 nets_fit spec valid net is =
     let own = operator_fits spec.op (valid_accepted.operators spec valid) is.own is.by_kind in
-    fitting spec net valid (subst (FitsSpec spec) (sym is.cut) (cut_fits spec is.own valid own))
+    let fits : FitsSpec spec net = subst (FitsSpec spec) (sym is.cut) (cut_fits spec is.own valid own) in
+    (fitting spec net valid fits, λ table. fitting spec (made_net spec table net) valid (made_fits spec table net fits))
+
+-- so does the net for a table
+pub net_for_fits : (spec : Spec) → IsValidSpec spec → (table : Delays) (net : Net) → IsNetFor spec table net → IsFitting spec net
+net_for_fits spec valid table net is =
+    subst (IsFitting spec) (sym is.made) ((nets_fit spec valid is.own is.is_own).1 table)

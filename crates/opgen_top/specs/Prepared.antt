@@ -1,5 +1,5 @@
 -- For the functions of this crate alone: an answer before its stores, or why there is none yet.
-use Rattle.std.specs.Prelude.{ℕ, ◌≡◌, ◌⊎◌, ◌≤◌, Bool, List, [], ◌∷◌, length, map, Option, Some, None, Result, Ok, Err, Vec, string_bytes}
+use Rattle.std.specs.Prelude.{ℕ, ◌≡◌, ◌⊎◌, ◌≤◌, ◌<◌, Bool, List, [], ◌∷◌, length, map, Option, Some, None, Result, Ok, Err, Vec, string_bytes}
 use Rattle.std.specs.declared.alloc.Global.{Global}
 use Rattle.std.specs.Str.Lines.{lines}
 use Rattle.opgen_num.specs.Words.{AreRowsOfCells}
@@ -13,10 +13,13 @@ use Rattle.opgen_io.specs.Files.{Files}
 use Rattle.opgen_io.specs.declared.folder.FetchFault.TheVariants as fetch
 use Rattle.opgen_command.specs.declared.command.Command.{Command}
 use Rattle.opgen_design.specs.declared.design.Design.{Design}
+use Rattle.opgen_net.specs.declared.net.Net.{Net}
 use Rattle.opgen_operator.specs.declared.spec.Spec.{Spec}
 use Rattle.opgen_pipe.specs.declared.planning.Planned.{Planned}
 use Rattle.opgen_pipe.specs.declared.planning.PlanFault.{PlanFault}
 use Rattle.opgen_pipe.specs.declared.planning.PlanFault.TheVariants as plan
+use Rattle.opgen_pipe.specs.Cells.{need}
+use Rattle.opgen_pipe.specs.Planned.{IsOutcome}
 use Rattle.opgen_target.specs.Delays.{Delays}
 use Rattle.opgen_vec.specs.Reading.{IsReading}
 use Rattle.opgen_vec.specs.Stimulus.{stimulus_cells}
@@ -29,7 +32,7 @@ use Rattle.opgen_top.specs.declared.line.Line.TheVariants as line
 use Rattle.opgen_top.specs.declared.rows.Rows.{Rows}
 use Rattle.opgen_top.specs.declared.circuit.Circuit.{Circuit}
 use Rattle.opgen_top.specs.Answer.{Answer, file, refusal, status_of, success}
-use Rattle.opgen_top.specs.Circuit.{IsCircuit}
+use Rattle.opgen_top.specs.Circuit.{IsCircuit, made_net, need_of, placing_of}
 use Rattle.opgen_top.specs.Due.{IsAnswerOf}
 use Rattle.opgen_top.specs.Lines.{vectors_name}
 use Rattle.opgen_top.specs.Printed.{IsAllowedLine}
@@ -78,6 +81,12 @@ abbrev pub TellsPlanFault : PlanFault → Answer → Type 0
 TellsPlanFault (plan.PeriodTooShort need) a = a ≡ refusal (line.PeriodTooShort need)
 TellsPlanFault plan.TooLarge a = a ≡ refusal line.TooLarge
 TellsPlanFault plan.Memory a = ⊥
+
+-- what planning a specification's net for a table returns: a plan of the net for the table, or why there is none
+abbrev pub IsOutcomeFor : Spec → (enable : Bool) → Net → Delays → Result Planned PlanFault → Type 0
+IsOutcomeFor spec enable net table (Err (plan.PeriodTooShort n)) =
+    (n ≡ need_of spec table net) × (spec.period < need table (made_net spec table net))
+IsOutcomeFor spec enable net table r = IsOutcome spec.name enable (made_net spec table net) (placing_of spec) table spec.period r
 
 -- an answer that stores the rows of a design over the stimulus of a specification
 pub record HasRows (spec : Spec) (design : Design) (seed cycles : ℕ) (a : Answer) : Type 0 where

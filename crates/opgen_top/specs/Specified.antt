@@ -14,8 +14,7 @@ use Rattle.opgen_vhdl.specs.DesignText.{text_of}
 use Rattle.opgen_vec.specs.Stimulus.{stimulus_cells}
 use Rattle.opgen_top.specs.declared.line.Line.TheVariants as line
 use Rattle.opgen_top.specs.Answer.{Answer, file, refusal, success}
-use Rattle.opgen_top.specs.Circuit.{IsCircuit, signals_of}
-use Rattle.opgen_top.specs.Kinds.{IsNetOf}
+use Rattle.opgen_top.specs.Circuit.{IsCircuit, IsNetFor, need_of, signals_of}
 use Rattle.opgen_top.specs.Lines.{report_name, vectors_name, vhdl_name}
 use Rattle.opgen_top.specs.Running.{IsRunText}
 use Rattle.opgen_top.specs.Targets.{Device, first_of_name, takes_lines, tuned}
@@ -43,19 +42,19 @@ pub record IsVectors (seed cycles : ℕ) (spec : Spec) (table : Delays) (a : Ans
   pub run : IsRunText planned.design cycles (stimulus_cells spec seed cycles) rows
   pub answer : a ≡ success (line.WroteVectors spec.name cycles) (file (vectors_name spec.name) rows ∷ [])
 
--- the period is too short for the net, which has a longer need
+-- the period is too short for the net; the answer tells the need of that of the specification
 pub record IsTooShort (spec : Spec) (table : Delays) (a : Answer) : Type 0 where
   pub net : Net
-  pub of_spec : IsNetOf spec net
+  pub of_spec : IsNetFor spec table net
   pub short : spec.period < need table net
-  pub answer : a ≡ refusal (line.PeriodTooShort (need table net))
+  pub answer : a ≡ refusal (line.PeriodTooShort (need_of spec table of_spec.own))
 
 -- the period is long enough, and the design too large
 pub record IsTooLarge (spec : Spec) (table : Delays) (a : Answer) : Type 0 where
   pub net : Net
-  pub of_spec : IsNetOf spec net
+  pub of_spec : IsNetFor spec table net
   pub long_enough : need table net ≤ spec.period
-  pub many_signals : MAX_SIGNALS < signals_of table spec.period net
+  pub many_signals : MAX_SIGNALS < signals_of spec table net
   pub answer : a ≡ refusal line.TooLarge
 
 -- by the table of the target: one of these two refusals, or what is said

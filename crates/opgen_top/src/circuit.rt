@@ -2,13 +2,14 @@
 ghost use Rattle.std.specs.Prelude.{◌≡◌, ◌≤◌, [], IfOk, Ok};
 ghost use Rattle.opgen_operator.specs.declared.operator.Operator.TheVariants.{Mcm, Tfir};
 ghost use Rattle.opgen_net.specs.Named.{IsNamed};
+ghost use Rattle.opgen_net.specs.Valid.{IsValid};
 ghost use Rattle.opgen_operator.specs.Fits.{FitsInEachMode, FitsSpec};
 ghost use Rattle.opgen_kinds.specs.Several.{IsAcceptedSeveral};
 ghost use Rattle.opgen_kinds.specs.Taps.{IsAcceptedTaps};
 ghost use Rattle.opgen_operator.specs.Valid.{IsValidSpec};
 ghost use Rattle.opgen_top.specs.AdderGraphs.{IsNetOfConstants, IsNetOfTaps};
 ghost use Rattle.opgen_top.specs.Kinds.{AreAddersOf, AreAddersOfOperator, IsNetOf, IsNetOfOperator};
-ghost use Rattle.opgen_top.specs.Prepared.{IfRefused, IsCircuitFor, IsListed, OnRefusal, TellsPlanFault};
+ghost use Rattle.opgen_top.specs.Prepared.{IfRefused, IsCircuitFor, IsListed, IsOutcomeFor, OnRefusal, TellsPlanFault};
 ghost use Rattle.opgen_top.specs.Specified.{OnDevices, OnTable};
 ghost use Rattle.opgen_top.specs.Targets.{devices_of};
 
@@ -19,10 +20,12 @@ use crate::line::Line;
 use crate::targets::choose_target;
 use opgen_net::Net;
 use opgen_num::Memory;
-use opgen_pipe::{PlanFault, Planned, plan};
+use opgen_pipe::{Placing, PlanFault, Planned, Timing, plan};
 use opgen_saturate::cut_output;
 use opgen_search::Gate;
 use opgen_spec::{Operator, Several, Spec, Taps};
+use opgen_target::Target;
+use opgen_timing::cut_and_plan;
 use std::alloc::Global;
 use std::thread::Threads;
 
@@ -155,6 +158,30 @@ fn refuse_plan(fault: PlanFault) -> Refusal
     }
 }
 
+// The plan of a specification's net for a target: in version 4 with its sums cut to the period, and few bits of registers.
+fn plan_net(
+    alloc: Global,
+    spec: &Spec,
+    net: &Net,
+    enable: bool,
+    target: &mut Box<dyn Target>,
+) -> Result<Planned, PlanFault>
+    requires valid { IsValid net.now }
+    requires named { IsNamed spec.now.name net.now }
+    ensures { IsOutcomeFor spec.now enable net.now (delays target.old) result }
+{
+    let name = spec.name.as_str();
+    if spec.version < 4 {
+        let timing = Timing {
+            period: spec.period,
+            placing: Placing::Earliest,
+        };
+        plan(alloc, net, name, enable, target, timing)
+    } else {
+        cut_and_plan(alloc, net, name, enable, target, spec.period)
+    }
+}
+
 /// The circuit of a specification, for the target that it names.
 pub(crate) fn make_circuit<R: Threads + Sync, G: Gate + Sync>(
     spec: &Spec,
@@ -177,8 +204,7 @@ pub(crate) fn make_circuit<R: Threads + Sync, G: Gate + Sync>(
     } = context;
     let mut target = choose_target(targets, spec)?;
     let built = build_net(rt, alloc, spec, workers, gate)?;
-    let name = spec.name.as_str();
-    match plan(alloc, &built.net, name, enable, &mut target, spec.period) {
+    match plan_net(alloc, spec, &built.net, enable, &mut target) {
         Ok(planned) => Ok(Circuit {
             planned,
             adders: built.adders,

@@ -92,7 +92,7 @@ module _ (n : ℕ) (some : 1 ≤ n) (few : n ≤ 32) where
     rounding = tt;
     mode = record { built = tt; agrees = refl; whole = λ bad. let no_mark : false ≡ true = bad in cc };
     output = refl;
-    overflow = refl;
+    overflow = tt;
     target = (omega arith, omega arith);
     period = (omega arith, omega arith);
     few_lines = omega arith;

@@ -1,11 +1,13 @@
-//! Parts of the program by values of Rust: roundings, texts, tokens, streams, simulators, heaps, plans of large nets,
-//! searches, and files on disk: tests alone.
+//! Parts of the program by values of Rust: roundings, texts, tokens, streams, simulators, heaps, plans of large nets and of nets
+//! whose sums are cut, searches, and files on disk: tests alone.
 #![tactic(auto)]
 
 #[cfg(test)]
 mod adders;
 #[cfg(test)]
 mod cut;
+#[cfg(test)]
+mod cuts;
 #[cfg(test)]
 mod digits;
 #[cfg(test)]

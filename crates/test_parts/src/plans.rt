@@ -9,7 +9,7 @@ ghost use Rattle.test_parts.specs.Sums as sums;
 use opgen_design::{Expr, Op, Slice};
 use opgen_net::{Class, Net, Node};
 use opgen_num::Memory;
-use opgen_pipe::{PlanFault, Planned, plan};
+use opgen_pipe::{Placing, PlanFault, Planned, Timing, plan};
 use opgen_target::Target;
 pub use opgen_target::plain;
 use std::alloc::{AllocError, Global};
@@ -29,7 +29,11 @@ pub fn planned(
     requires outputs { map (λ o. o.name) net.now.outputs ≡ codes "y" ∷ [] }
     ensures ports { IfOk result (λ p. p.design.ports ≡ ports_of enable net.now) }
 {
-    plan(alloc, net, "made", enable, target, period)
+    let timing = Timing {
+        period,
+        placing: Placing::Earliest,
+    };
+    plan(alloc, net, "made", enable, target, timing)
 }
 
 pub fn planned_plain(alloc: Global, net: &Net, enable: bool, period: u32) -> Result<Planned, Fail>
@@ -62,7 +66,8 @@ pub fn part(node: usize, high: u32, low: u32) -> Slice
     Slice { node, high, low }
 }
 
-fn sum_of(alloc: Global, first: usize, second: usize) -> Result<Expr, AllocError>
+// The sum of two nodes.
+pub fn sum_of(alloc: Global, first: usize, second: usize) -> Result<Expr, AllocError>
     ensures { IfOk result (λ e. plain_of e ≡ sums.sum_of first second) }
 {
     let mut operands = Vec::new(alloc);

@@ -6,8 +6,9 @@ from opgenlib import vhdl
 from opgenlib.drawings.example import Example
 from opgenlib.drawings.adders import read_place
 from opgenlib.drawings.error import counted_rows
-from opgenlib.drawings.schedule import Slot, checked_schedule, delays
+from opgenlib.drawings.schedule import Slot, checked_schedule
 from opgenlib.svg import LETTER, Picture
+from opgenlib.target import delays
 
 MOST_LINKS, LINK, LINE_OF_LINKS = 6, 124, 150
 

@@ -4,7 +4,7 @@ from dataclasses import dataclass
 from fractions import Fraction
 
 from opgenlib.drawings.example import Example, NotDrawn
-from opgenlib.exact import exact_of, exact_values
+from opgenlib.exact import error_of, exact_of, exact_values, wraps
 from opgenlib.operators import Row
 from opgenlib.rows import BadRow, read_rows, unit_count
 from opgenlib.svg import LETTER, Picture
@@ -54,8 +54,8 @@ def errors_of(example: Example) -> Iterator[tuple[list[Fraction], bool]]:
     inputs = [entered for entered, _ in rows]
     for cycle in range(latency, len(rows)):
         wanted = exact(inputs, cycle - latency)
-        saturates = "out_width" in example.spec and wanted != unlimited(inputs, cycle - latency)
-        yield [] if wanted is None else [found - value for found, value in zip(rows[cycle][1], wanted)], saturates
+        saturates = "out_width" in example.spec and not wraps(example.spec) and wanted != unlimited(inputs, cycle - latency)
+        yield [] if wanted is None else [error_of(example.spec, *pair) for pair in zip(rows[cycle][1], wanted)], saturates
 
 
 def measured(example: Example) -> Found:

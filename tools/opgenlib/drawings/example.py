@@ -31,6 +31,18 @@ class Example:
     def design(self) -> vhdl.Design:
         return vhdl.design_of(self.beside(".vhd").read_text(encoding="latin-1"))
 
+    @property
+    def has_whole_sums(self) -> bool:
+        """Whether its sums are as the recipe of its kind has them: version 4 passes on their lowest places and cuts them."""
+        return self.spec["version"] < 4
+
+    @property
+    def whole_design(self) -> vhdl.Design:
+        """The design, if its sums are whole, from which heaps and graphs are read."""
+        if not self.has_whole_sums:
+            raise NotDrawn("heaps and graphs are drawn of whole sums, and those of version 4 are cut to the period")
+        return self.design
+
     @cached_property
     def report(self) -> Report:
         return read_report(self.beside(".rpt"))

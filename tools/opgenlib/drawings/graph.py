@@ -37,7 +37,7 @@ def adders_of(example: Example) -> Adders:
     numbers = example.spec["taps" if is_filter else "constants"]
     if not facts.graph and any(abs(number) & abs(number) - 1 for number in numbers):
         raise NotDrawn(f"the report {example.beside('.rpt')} has no graph")
-    made = sums_of(example.design, list(facts.graph))
+    made = sums_of(example.whole_design, list(facts.graph))
     if missing := [number for number in facts.graph if number not in made]:
         raise NotDrawn(f"{example.beside('.vhd')} does not make {missing[0]} of the report's graph: run `opgen generate` again")
     words = f"graph {graph_text(facts.graph)}{cut_text(example.spec)}"

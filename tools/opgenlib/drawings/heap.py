@@ -72,7 +72,7 @@ def draw_heads(picture: Picture, count: int, lowest: int) -> None:
 
 
 def heap(example: Example) -> Picture:
-    spec, design = example.spec, example.design
+    spec, design = example.spec, example.whole_design
     if spec["kind"] == "sop":
         return sum_heap(example)
     rows = next((driver.exprs[0][2] for driver in design.drivers if driver.exprs[0][:2] == ("chain", "+")), None)

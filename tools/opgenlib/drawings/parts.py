@@ -309,10 +309,11 @@ def range_parts(circuit: Circuit) -> Iterator[tuple[str, Part]]:
 
 
 def parts_of(example: Example) -> dict[str, Part]:
-    """What each node does, of those of which it is known."""
+    """What each node does, of those of which it is known: of a circuit whose sums are cut those that bring an output into its range."""
     circuit = Circuit(example.design)
-    found = kind_parts(circuit, example.spec)
-    return found | dict(range_parts(circuit)) if "out_width" in example.spec else found
+    found = kind_parts(circuit, example.spec) if example.has_whole_sums else {}
+    saturates = "out_width" in example.spec and example.spec.get("overflow") != "wrap"
+    return found | dict(range_parts(circuit)) if saturates else found
 
 
 def kind_parts(circuit: Circuit, spec: dict) -> dict[str, Part]:

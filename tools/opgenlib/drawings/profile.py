@@ -12,7 +12,7 @@ HIGH, TOP, LEFT, BELOW = 110, 34, 90, 40
 def counts_of(example: Example) -> list[Counter]:
     """For each heap, how many bits its columns have at first."""
     found = []
-    for columns, gates in heaps_of(Circuit(example.design)):
+    for columns, gates in heaps_of(Circuit(example.whole_design)):
         counts = Counter(column for (node, _), column in columns.items() if node not in gates)
         if counts:
             found.append(counts)

@@ -9,11 +9,9 @@ from opgenlib.drawings.example import Example, NotDrawn
 from opgenlib.drawings.parts import RANGE_TEST, Part, parts_of, words_of
 from opgenlib.report import Report
 from opgenlib.svg import LETTER, Picture
+from opgenlib.target import delays
 
 COLORS = {"logic": "#7f9f3f", "add": "steelblue", "choice": "#c08030", "table": "#8060a0", "wire": "#909090"}
-# The delays of `plain`, base and per bit, and of `fixed`.
-PLAIN = {"wire": (0, 0), "logic": (400, 0), "add": (500, 30), "choice": (450, 0), "table": (600, 50), "register": (100, 0)}
-FIXED = {"wire": 0, "logic": 350, "choice": 400, "table": 700, "register": 80}
 # The most bars that stand for a cell each, the most bars and the most cycles of a panel.
 MOST_CELLS, MOST_ROWS, MOST_CYCLES = 60, 44, 8
 WIDE, LEAST_WIDE, ROW, TOP, BELOW = 790, 400, 18, 52, 34
@@ -44,15 +42,6 @@ class Bar:
     @property
     def slots(self) -> tuple[Slot, ...]:
         return (self.slot, *self.others)
-
-
-def delays(spec: dict) -> Callable[[str, int], int]:
-    """The delay of a cell by class and width."""
-    lines = {line["class"]: (line["base"], line["per_bit"]) for line in spec.get("delay", [])}
-    if spec["target"] == "fixed":
-        return lambda kind, width: FIXED[kind] if kind != "add" else 400 + 100 * ((width + 7) // 8)
-    table = PLAIN | lines
-    return lambda kind, width: table[kind][0] + table[kind][1] * width
 
 
 def cell_of(driver: vhdl.Driver, widths: dict[str, int]) -> tuple[str, int] | None:

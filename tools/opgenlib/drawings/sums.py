@@ -177,7 +177,7 @@ def guard_of(circuit: Circuit, width: int) -> int:
 
 
 def sum_heap(example: Example) -> Picture:
-    circuit, terms = Circuit(example.design), terms_of(example.spec)
+    circuit, terms = Circuit(example.whole_design), terms_of(example.spec)
     found, rows = bits_of(circuit)
     count = max(map(len, rows))
     owned = Owners(circuit, terms).of(found)

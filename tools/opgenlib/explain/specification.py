@@ -7,14 +7,19 @@ from typing import Any
 
 from .. import schema
 from ..keys import table as keys
-from ..keys.phrases import ends, versions_text
+from ..keys.faults import first_fault
+from ..keys.phrases import ends
 from ..nearest import meant
 from ..places import Place
 from ..specification import NotToml, Specification, TooDeep, load, shift_of, short
+from ..target import MOST_OF_A_PIECE, cells_of, sum_of
 from ..terms import Term, terms_of, total_bits
+from ..writing import written as in_toml
 from .instead import instead_of_divisor, instead_of_kind
 
 NAME_RULE = f"{ends(keys.read().keys['name'].ranges[0]['bytes'])} of small letters, digits and single _, a letter first"
+# The first version that cuts sums to the period.
+CUTS_SINCE = 4
 # Of a decimal text.
 MOST_DIGITS = 9
 # Periods below are likely to be meant in nanoseconds.
@@ -112,8 +117,8 @@ class Explainer:
         yield f'{self.at(place)}: unknown key "{short(key)}"{self.of_kind};{near} {its} are {", ".join(known)}'
         if key in NO_KEYS:
             yield f"  {NO_KEYS[key]}"
-        elif later := next((table["version"] for table in self.newer() if key in schema.keys_of(table)), None):
-            yield f"  {key} is a key of version {later}: take it out, or write version = {later}"
+        elif later := next((table for table in self.newer() if key in schema.keys_of(table)), None):
+            yield f"  {key} is a key of version {later['version']}{self.ways_to(key, later)}"
         elif others := schema.kinds_with(key):
             yield f"  {key} is a key of {', '.join(others)}: take it out, or change kind"
 
@@ -150,25 +155,43 @@ class Explainer:
         except (OSError, NotToml):
             return ""
 
-    def is_of_closed(self, key: str) -> bool:
-        """Whether a key of the document is judged by the closed version alone."""
-        kind, found = self.table.get("kind"), self.keys.keys.get(key)
-        is_kind = isinstance(kind, str) and kind in self.keys.kinds
-        return not self.is_version() and (found is None or is_kind and found.use(kind, self.version) is None)
+    @property
+    def kind(self) -> str | None:
+        return self.table["kind"] if schema.has_kind(self.table) else None
+
+    def ways_to(self, key: str, later: dict[str, Any]) -> str:
+        """What to do about a key of a later version, by the document with that version."""
+        version = later["version"]
+        lacking = self.keys.unmade(self.kind, version, later)
+        if lacking is None:
+            return f": take it out, or write version = {version}"
+        if lacking.name == key or not (made := lacking.made(self.kind, version)):
+            return ", of which no circuit is made yet: take it out"
+        return f": take it out, or write version = {version} and {lacking.name} = {in_toml(made[0])}"
+
+    def clash(self, key: str, value: Any) -> Iterator[str]:
+        """Why a value of the right type is refused: the key may not be there without another, or beside one."""
+        place, found = self.spec.key_place(key), self.keys.keys[key]
+        other = found.row.get("needs", "")
+        if other and other not in self.table:
+            yield f"{self.at(place)}: {key} is there without {other}"
+            yield f"  write {other} too, {schema.bounds(schema.rules_of(other, self.table))}, or take {key} out"
+            return
+        rows = (row for row in found.row.get("not_beside", []) if keys.fits(row, self.kind, self.version) and keys.holds(row, self.table))
+        for row in rows:
+            yield f"{self.at(place)}: {key} is beside {row['beside']} = {self.written(row['beside'])}"
+            instead = f", or write {row['beside']} = {in_toml(not row['is'])}"
+            yield f"  take {key} out{'' if found.is_unmade(self.kind, self.version, self.table) else instead}"
 
     def wrong_type(self, key: str, line: int = 0) -> Iterator[str]:
-        if not line and self.is_of_closed(key):
-            yield from self.bad_version(self.table["version"])
+        if not line and (said := list(self.clash(key, self.table[key]))) and not any(schema.faults(self.table[key], self.type_of(key))):
+            yield from said
             return
         path, rules = self.path(key, line), self.rules(key, line)
         value = self.line_table(key, line)[key]
         if key == "denominator" and type(value) is int:
             yield f"{self.at(self.spec.key_place(*path))}: denominator is beside decimal texts, which have their own"
             yield "  take the denominator out, or write the coefficients as whole numbers"
-            return
-        if key == "out_signed" and type(value) is bool:
-            yield f"{self.at(self.spec.key_place(*path))}: out_signed is there without out_width"
-            yield f"  write out_width too, {schema.bounds(schema.rules_of('out_width', self.table))}, or take out_signed out"
             return
         expected = schema.expected(rules)
         if isinstance(value, list) and (index := self.wrong_element(value, rules)) is not None:
@@ -211,14 +234,49 @@ class Explainer:
                 return f", as [{written}]"
         return ""
 
+    def type_of(self, key: str) -> dict[str, Any]:
+        """The schema of a key's type alone."""
+        return {"type": schema.SCHEMA["properties"][key]["type"]}
+
+    def unmade(self, key: keys.Key) -> Iterator[str]:
+        """Which key asks for a circuit that is not made yet, and what to do."""
+        row = next(row for row in key.unmade if keys.fits(row, self.kind, self.version) and keys.is_unmade(row, self.table.get(key.name), self.table))
+        if key.name in self.table:
+            found = f"{key.name} has {len(self.table[key.name])} tables" if "most" in row else f"{key.name} is {self.written(key.name)}"
+            yield f"{self.at(self.spec.value_place(key.name))}: {found}, of which no circuit{self.of_kind} is made yet in version {self.version}"
+        else:
+            absent = key.use(self.kind, self.version)["optional"].replace("`", "")
+            yield f"{self.file}: there is no {key.name}, which stands for {absent}; no circuit{self.of_kind} is made of {absent} yet"
+        yield f"  {', or '.join(self.made_instead(key, row))}"
+
+    def made_instead(self, key: keys.Key, row: keys.Row) -> Iterator[str]:
+        """What to write in place of what is not made yet."""
+        if "but" in row:
+            yield f"write {key.name} = {' or '.join(map(in_toml, row['but']))}"
+        elif "above" in row:
+            yield f"write {key.name} = {self.table[row['above']]} or less"
+        elif "most" in row:
+            yield f"write at most {row['most']} tables of {key.name}"
+        else:
+            yield f"take {key.name} out"
+        earlier = self.table | {"version": self.version - 1}
+        if first_fault(earlier, self.keys) is None:
+            yield f"version = {self.version - 1}"
+
     def bad_version(self, found: int) -> Iterator[str]:
+        if self.is_version() and (key := self.keys.unmade(self.kind, self.version, self.table)):
+            yield from self.unmade(key)
+            return
         expected = schema.expected(schema.SCHEMA["properties"]["version"])
         yield f"{self.at(self.spec.value_place('version'))}: version is {found}; expected {expected}"
-        yield f"  {versions_text(self.keys)}"
+        *earlier, newest = (f"{row['number']}: {row['says']}" for row in self.keys.rows["version"])
+        yield f"  {'; '.join(earlier)}"
+        yield f"  {newest}"
 
     def bad_name(self) -> Iterator[str]:
         name = self.table["name"]
-        why = why_bad(name, schema.SCHEMA["properties"]["name"], "or a name of a port of some operator")
+        newer = self.keys.refused("document", self.version)
+        why = why_bad(name, schema.SCHEMA["properties"]["name"], newer, "or a name of a port of some operator")
         found = self.written("name") or repr(name)
         yield f"{self.at(self.spec.value_place('name'))}: name is {found}" + (f": {why}" if why else "")
         yield f"  expected {NAME_RULE}, and no word of VHDL or port"
@@ -298,7 +356,7 @@ class Explainer:
         elif name == self.table["name"]:
             yield f"{head}, as is that of the operator; expected another name"
         else:
-            why = why_bad(name, schema.TABLES["input"]["properties"]["name"], "or rtl, clk, ce or y")
+            why = why_bad(name, schema.TABLES["input"]["properties"]["name"], self.keys.refused("port", self.version), "or rtl, clk, ce or y")
             yield head + (f": {why}" if why else "")
             yield f"  expected {NAME_RULE}, and no word of VHDL, rtl, clk, ce or y"
 
@@ -328,12 +386,13 @@ class Explainer:
 
     def without_search(self, key: str, items: list) -> Iterator[str]:
         """That the numbers would be in range without `extra`, where that is so."""
-        newest = schema.versions()[-1]
-        table = {name: value for name, value in self.table.items() if name != "extra"} | {"version": newest}
+        rest = {name: value for name, value in self.table.items() if name != "extra"}
+        tables = [rest | {"version": version} for version in schema.versions() if version >= self.version]
+        table = next(one for one in tables if not schema.is_needed("extra", one))
         rules = schema.rules_of(key, table)
         if "extra" not in self.table or any(schema.faults(items, rules)):
             return
-        version = "" if self.version == newest else f"write version = {newest} and "
+        version = "" if self.version == table["version"] else f"write version = {table['version']} and "
         length, numbers = schema.bounds(length_rules(rules)), schema.bounds(schema.forms_of(rules)[0])
         yield f"  {version}take extra out: without a search there may be {length} {key}, each {numbers}"
 
@@ -455,7 +514,25 @@ class Explainer:
         place, period = self.spec.value_place("period"), self.table["period"]
         yield f"{self.at(place)}: period {period} is too short: the slowest cell and the setup time need {need} ps"
         ns = f" (in picoseconds: {period} ns is period = {period}000)" if period < MOST_NS else ""
-        yield f"  write period = {need} or more{ns}, or make the operator narrower"
+        if self.version < CUTS_SINCE:
+            yield f"  write period = {need} or more{ns}, or make the operator narrower"
+            yield from self.cut_instead(need)
+            return
+        width = sum_of(self.table, need)
+        slow = [f"a sum of {width} bits"] if width and width <= MOST_OF_A_PIECE else []
+        what = " or ".join(slow + cells_of(self.table, need)) or "a cell that is no sum"
+        yield f"  write period = {need} or more{ns}: sums are cut to the period, so what is too slow is {what}"
+
+    def cut_instead(self, need: int) -> Iterator[str]:
+        """That a later version cuts sums, where a sum alone is as slow as this."""
+        width = sum_of(self.table, need)
+        if width and width > MOST_OF_A_PIECE and not cells_of(self.table, need):
+            later = self.table | {"version": CUTS_SINCE}
+            lacking = self.keys.unmade(self.kind, CUTS_SINCE, later)
+            made = lacking and lacking.made(self.kind, CUTS_SINCE)
+            if made or not lacking:
+                more = f" and {lacking.name} = {in_toml(made[0])}" if lacking and made else ""
+                yield f"  or write version = {CUTS_SINCE}{more}, which cuts this sum of {width} bits into pieces"
 
     def too_large(self) -> Iterator[str]:
         yield f"{self.file}: the design would have more than 65,536 signals"
@@ -538,9 +615,9 @@ def numerators_of(items: list) -> list[int]:
     return [int(Fraction(text) * 10**places) for text in items]
 
 
-def why_bad(name: str, rule: dict, others: str) -> str:
+def why_bad(name: str, rule: dict, refused: list[str], others: str) -> str:
     """Which part of the rule of names a name breaks; `others` are those that are refused and no words of VHDL."""
-    if name in rule["not"]["anyOf"][1]["enum"]:
+    if name in refused:
         return f"a word of VHDL, {others}"
     for pattern, why in (
         (r"\Z", "it is empty"),

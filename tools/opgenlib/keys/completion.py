@@ -2,7 +2,7 @@
 from pathlib import Path
 
 from ..commands import COMMANDS, STORES
-from .table import TOP, Table
+from .table import TOP, Key, Table
 
 # The commands of bin/opgen beside those of the program, with their words.
 SHELLS = ("bash", "zsh")
@@ -125,18 +125,25 @@ def options(command: str) -> list[str]:
     return [*COMMANDS[command].options, *(["-o"] if command in STORES else [])]
 
 
+def made_words(key: Key, table: Table) -> list[str]:
+    """The words that a key may be in the last version, but for those of which no circuit is made yet."""
+    words = table.words(key, table.versions[-1]) or []
+    return [word for word in words if not key.unmade or any(word in row.get("but", []) for row in key.unmade)]
+
+
 def values(table: Table) -> dict[str, list[str]]:
     """The keys whose values are some words, with those words."""
     version = table.versions[-1]
-    found = {key.name: table.words(key, version) for key in table.keys.values()}
+    found = {key.name: made_words(key, table) for key in table.keys.values()}
     found |= {key.name: ["true", "false"] for key in table.keys.values() if key.type == "flag"}
     found |= {"version": list(map(str, table.versions))}
     return {name: held for name, held in found.items() if held}
 
 
 def swept(table: Table) -> list[str]:
-    """The keys whose values a sweep lists, with their equals sign."""
-    return [f"{key.name}=" for key in table.keys.values() if key.type != "tables"]
+    """The keys whose values a sweep lists, with their equals sign; none of which no circuit is made yet."""
+    made = (key for key in table.keys.values() if not any(row.keys() <= {"since"} for row in key.unmade))
+    return [f"{key.name}=" for key in made if key.type != "tables"]
 
 
 def files(call: str) -> list[str]:

@@ -15,6 +15,8 @@ SAMPLES = {"number": 1, "text": "1", "flag": True, "float": 0.5, "numbers": [1],
 # Which of them have a key's type.
 ALSO = {"coefficients": ("numbers",), "numbers": ("numbers",)}
 UNKNOWN = "colour"
+# Values of the type of a key that are in no range.
+WRONG_WORDS = {"text": "none", "number": 99}
 
 
 @dataclass(frozen=True)
@@ -93,23 +95,32 @@ def wrong(key: Key) -> list[Any]:
 class Maker:
     """The documents of one kind in one version; keys that all kinds have are tried in the first kind alone, but for flags."""
 
-    def __init__(self, kind: str, version: int, table: Table, judged_by: Table | None = None) -> None:
+    def __init__(self, kind: str, version: int, table: Table) -> None:
         self.kind, self.version, self.table = kind, version, table
-        self.judged_by = judged_by or table
         self.is_first = kind == next(iter(table.kinds))
+        self.known = {key.name: key for key in table.known(kind, version)}
         needed = {key.name: key.example(kind) for key in table.needed(kind, version)}
         one_of = table.kinds[kind].row.get("one_of", [])[:1]
         self.base = needed | {"version": version, "kind": kind} | {name: table.keys[name].example(kind) for name in one_of}
+        # Keys without which no circuit is made yet.
+        self.base |= {key.name: made[0] for key in self.known.values() if (made := key.made(kind, version)) and self.is_unmade(key)}
+
+    def is_unmade(self, key: Key) -> bool:
+        return key.is_unmade(self.kind, self.version, self.base)
 
     def document(self, title: str, values: Values) -> Document:
-        return Document(f"{self.kind}, version {self.version}, {title}", values, first_fault(values, self.judged_by))
+        return Document(f"{self.kind}, version {self.version}, {title}", values, first_fault(values, self.table))
+
+    def needs(self, key: Key) -> Values:
+        """The keys without which a key may not be."""
+        needs = key.row.get("needs")
+        return {needs: self.table.keys[needs].example(self.kind)} if needs else {}
 
     def settings(self, key: Key, held: dict[str, Key]) -> Iterator[Values]:
-        """Other values beside which a key has a range of its own: none, and those that a row of its ranges names."""
-        needs = key.row.get("needs")
-        common = key.row.get("with", {}) | ({needs: self.table.keys[needs].example(self.kind)} if needs else {})
+        """Other values beside which a key has a range of its own or may not be: none, and those that its rows name."""
+        common = key.row.get("with", {}) | self.needs(key)
         yield common
-        for row in key.ranges:
+        for row in key.ranges + key.row.get("not_beside", []):
             other = held.get(row.get("beside", ""))
             if other and fits(row, self.kind, self.version):
                 yield common | {other.name: self.beside(other, row)}
@@ -124,39 +135,45 @@ class Maker:
             for value in values_of(key, key.limits(self.kind, self.version, beside), self.table, self.kind, self.version):
                 yield f"{key.name} = {value!r:.40}{said}", beside | {key.name: value}
         for value in wrong(key):
-            yield f"{key.name} = {value!r}", {key.name: value}
+            yield f"{key.name} = {value!r}", self.needs(key) | {key.name: value}
+        if "needs" in key.row:
+            yield f"{key.name} without {key.row['needs']}", {key.name: key.example(self.kind)}
 
-    def of_types(self, key: Key, known: dict[str, Key]) -> Iterator[tuple[str, Values]]:
-        """The same where no value of the right type is judged: its example, also beside keys that it needs or may not be beside."""
-        needs = key.row.get("needs")
-        beside = {needs: self.table.keys[needs].example(self.kind)} if needs else {}
-        others = [{row["beside"]: row["is"]} for row in key.row.get("not_beside", [])]
-        for values in (beside, *([{}] if needs else []), *(beside | other for other in others)):
-            said = "".join(f" beside {name}" for name in values)
-            yield f"{key.name} as in its example{said}", values | {key.name: key.example(self.kind)}
-        for value in wrong(key):
-            yield f"{key.name} = {value!r}", beside | {key.name: value}
-
-    def around_keys(self, said_of) -> Iterator[Document]:
+    def around_keys(self) -> Iterator[Document]:
         """The documents with a change in one key: there, absent, unknown."""
-        known = {key.name: key for key in self.table.known(self.kind, self.version)}
         yield self.document("as it is", self.base)
         yield self.document(f"with {UNKNOWN}", self.base | {UNKNOWN: 1})
         for name, key in self.table.keys.items():
-            if name not in known:
+            if name not in self.known:
                 yield self.document(f"with {name}", self.base | {name: key.example(self.kind)})
                 continue
             if not self.is_first and key.is_of_all() and key.type != "flag":
                 continue
             yield self.document(f"without {name}", {other: value for other, value in self.base.items() if other != name})
-            for said, values in said_of(key, known):
+            for said, values in self.of_key(key, self.known):
                 yield self.document(said, self.base | values)
 
+    def unmade_value(self, key: Key, row: Row) -> Any:
+        """A value of which a row says that no circuit is made yet."""
+        if "most" in row:
+            return filled(key.example(self.kind), row["most"] + 1)
+        return self.base[row["above"]] + 1 if "above" in row else WRONG_WORDS.get(key.type, key.example(self.kind))
+
+    def of_unmade(self) -> Iterator[Document]:
+        """Documents of which no circuit is made yet, with a fault that comes before that, and with others that come after."""
+        for key in self.known.values():
+            for row in (row for row in key.unmade if fits(row, self.kind, self.version)):
+                value = self.unmade_value(key, row)
+                values = self.base | self.needs(key) | {key.name: value}
+                for said, more in (("", {}), (" and a bad name", {"name": "A"}), (" and a bad period", {"period": 0}),
+                                   (f" and {UNKNOWN}", {UNKNOWN: 1}), (" and a wrong type", {"period": "1"})):
+                    yield self.document(f"{key.name} = {value!r:.40}{said}", values | more)
+
     def documents(self) -> Iterator[Document]:
-        known = {key.name: key for key in self.table.known(self.kind, self.version)}
-        yield from self.around_keys(self.of_key)
+        yield from self.around_keys()
+        yield from self.of_unmade()
         for array, keys in self.table.arrays.items():
-            if array in known and (self.is_first or not self.table.keys[array].is_of_all()):
+            if array in self.known and (self.is_first or not self.table.keys[array].is_of_all()):
                 yield from self.of_tables(array, keys)
 
     def of_tables(self, array: str, keys: dict[str, Key]) -> Iterator[Document]:
@@ -174,7 +191,8 @@ def of_versions(table: Table) -> Iterator[Document]:
     """Documents of each version and kind, known or not there, with and without each key that all have."""
     for version in [table.versions[0] - 1, *table.versions, table.versions[-1] + 1]:
         for kind in [*table.kinds, "none"]:
-            base = Maker(kind if kind in table.kinds else next(iter(table.kinds)), table.versions[-1], table).base
+            known = kind if kind in table.kinds else next(iter(table.kinds))
+            base = Maker(known, version if version in table.versions_of(known) else table.versions[-1], table).base
             values = base | {"version": version, "kind": kind}
             yield Document(f"{kind}, version {version}", values, first_fault(values, table))
             for gone in ("version", "kind", "name") if kind in table.kinds_in(version) else values:
@@ -182,17 +200,11 @@ def of_versions(table: Table) -> Iterator[Document]:
                 yield Document(f"{kind}, version {version}, without {gone}", rest, first_fault(rest, table))
 
 
-def of_closed(table: Table) -> Iterator[Document]:
-    """Documents of the closed version: no value is judged by its range."""
-    if table.closed is None:
-        return
-    version = table.closed.versions[-1]
-    for kind in table.closed.kinds:
-        maker = Maker(kind, version, table.closed, table)
-        yield from maker.around_keys(maker.of_types)
-    base = {key.name: key.example(None) for key in table.needed(None, version)} | {"kind": "none"}
-    for key in (key for key in table.closed.keys.values() if not key.is_of_all()):
-        for number in (*table.versions, version, version + 1):
+def of_unknown_kind(table: Table) -> Iterator[Document]:
+    """Documents whose kind is no kind word, with each key that not all kinds have."""
+    base = {key.name: key.example(None) for key in table.needed(None, table.versions[-1])} | {"kind": "none"}
+    for key in (key for key in table.keys.values() if not key.is_of_all()):
+        for number in (*table.versions, table.versions[-1] + 1):
             values = base | {"version": number, key.name: key.example(None)}
             yield Document(f"none, version {number}, with {key.name}", values, first_fault(values, table))
             values = values | {"exact": True}
@@ -201,7 +213,7 @@ def of_closed(table: Table) -> Iterator[Document]:
 
 def documents(table: Table) -> list[Document]:
     """All documents of the table, each once."""
-    made = [*of_versions(table), *of_closed(table)]
+    made = [*of_versions(table), *of_unknown_kind(table)]
     for kind in table.kinds:
         for version in table.versions_of(kind):
             made += Maker(kind, version, table).documents()

@@ -46,11 +46,9 @@ class Judge:
     """A document with what the table says of its kind and version; each method has the faults of one name, in their order."""
 
     def __init__(self, values: Values, table: Table) -> None:
-        self.values, self.versions = values, table.versions
+        self.values, self.table = values, table
         found = values.get("version")
-        is_open = is_number(found) and found in self.versions
-        self.table = table if is_open else table.closed or table
-        self.version = found if is_open else self.table.versions[-1]
+        self.version = found if is_number(found) and found in table.versions else table.versions[-1]
         kind = values.get("kind")
         self.kind = kind if is_text(kind) and kind in table.named_in(self.version) else None
 
@@ -119,10 +117,10 @@ class Judge:
         """Whether a rule of names refuses a name."""
         names = self.table.rows["names"]
         patterns = re.search(names["pattern"].replace("$", r"\Z"), name), re.search(names[rule]["signals"].replace("$", r"\Z"), name)
-        return not 1 <= len(name) <= 32 or not patterns[0] or bool(patterns[1]) or name in self.table.refused(rule)
+        return not 1 <= len(name) <= 32 or not patterns[0] or bool(patterns[1]) or name in self.table.refused(rule, self.version)
 
     def bad(self) -> Iterator[str]:
-        if self.values["version"] not in self.versions:
+        if self.values["version"] not in self.table.versions or self.table.unmade(self.kind, self.version, self.values):
             yield f"BadVersion {self.values['version']}"
         if self.is_refused(self.values["name"], "document"):
             yield "BadName"

@@ -92,14 +92,35 @@ def kinds_by_version(table: Table) -> str:
     return "; ".join(parts)
 
 
+def unmade_text(row: Row) -> str:
+    """What a row says of documents whose circuits are not made yet."""
+    if "above" in row:
+        return f"so far not above `{row['above']}`"
+    if "most" in row:
+        return f"so far at most {row['most']}"
+    if "but" not in row:
+        return "not made yet"
+    made = listed([f"`{value}`" if isinstance(value, str) else str(value) for value in row["but"]], "or")
+    return f"so far only {made}" + (", and needed," if row.get("needed") else "")
+
+
+def unmade_texts(key: Key, table: Table) -> list[str]:
+    """What is not made yet of a key, with the version if earlier ones have it."""
+    first = min(use.get("since", 1) for use in key.row["uses"])
+    rows = (row | {"since": 1} if row["since"] <= first else row for row in key.unmade)
+    return [conditioned(row, unmade_text(row), table) for row in rows]
+
+
 def range_text(key: Key, table: Table) -> str:
     """In which range a key is: all rows."""
     rows = [conditioned(row, limit(row), table) for row in key.ranges if "fault" not in row]
     names = {"document": ["by the rule of names"], "port": ["by the rule of port names"], "input": ["the name of an input"]}
     needs = [f"not without `{key.row['needs']}`"] if "needs" in key.row else []
     texts = [f"not beside decimal texts in `{key.row['not_beside_texts']}`"] if "not_beside_texts" in key.row else []
+    clashes = [conditioned(row, "not", table) for row in key.row.get("not_beside", [])]
     rule = [key.row["rule"]] if "rule" in key.row else []
-    return "; ".join([*words_of(key, table), *rows, *names.get(key.row.get("names", ""), []), *needs, *texts, *rule])
+    said = [*words_of(key, table), *rows, *names.get(key.row.get("names", ""), []), *needs, *texts, *clashes]
+    return "; ".join([*said, *rule, *unmade_texts(key, table)])
 
 
 def type_text(key: Key) -> str:
@@ -122,6 +143,8 @@ def uses_text(key: Key, table: Table) -> str:
 def optional_text(key: Key, table: Table) -> str:
     """For whom a key is optional, and what holds without it."""
     uses = key.row["uses"]
+    if len({row.get("optional") for row in uses}) == 1:
+        return f"optional, {uses[0]['optional']}" if "optional" in uses[0] else ""
     kinds = {kind for row in uses for kind in row.get("kinds", table.kinds)}
     parts = []
     for at, row in enumerate(uses):
@@ -158,7 +181,7 @@ def within_text(key: Key, table: Table) -> str:
     if words == "kinds":
         return kinds_text(table)
     if words:
-        return "; ".join(f"{word}: {meaning}" for word, meaning in words.items())
+        return "; ".join([*(f"{word}: {meaning}" for word, meaning in words.items()), *unmade_texts(key, table)])
     return "" if key.row.get("names") == "input" else capital(range_text(key, table))
 
 
@@ -183,10 +206,12 @@ def template_comment(key: Key, kind: Kind, version: int, table: Table) -> str:
     if key.row.get("words") in ("versions", "kinds") or key.name in ("exact", "target"):
         return said
     known = {one.name for one in (table.arrays[key.array].values() if key.array else table.known(kind.name, version))}
+    words = [listed([f"`{word}`" for word in table.words(key, version) or []], "or")]
     held = key.limits(kind.name, version, {})
     within = limit({name: getattr(held, name) for name in LIMITS if getattr(held, name, None) and name != "bytes"})
     beside = [row for row in key.ranges if fits(row, kind.name, version) and row.get("beside") in known and "fault" not in row]
     use = key.use(kind.name, version) or {}
     absent = [f"{use['optional']} where absent"] if use.get("optional", "none") != "none" and "absent" not in said else []
-    texts = [said, within, *words_of(key, table), *(beside_text(row, table) for row in beside), *absent]
+    unmade = [unmade_text(row).rstrip(",") for row in key.unmade if fits(row, kind.name, version)]
+    texts = [said, within, *words, *(beside_text(row, table) for row in beside), *absent, *unmade]
     return plain("; ".join(text for text in texts if text))

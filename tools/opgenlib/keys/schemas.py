@@ -37,7 +37,7 @@ def names_rule(key: Key, table: Table) -> Schema:
     rule = table.rows["names"].get(key.row["names"])
     if not rule:
         return {}
-    refused = [{"pattern": rule["signals"]}, {"enum": table.refused(key.row["names"])}]
+    refused = [{"pattern": rule["signals"]}, {"enum": table.refused(key.row["names"], table.versions[0])}]
     most = key.limits(None, table.versions[-1], {}).bytes[1]
     return {"maxLength": most, "pattern": table.rows["names"]["pattern"], "not": {"anyOf": refused}}
 
@@ -117,6 +117,8 @@ def kind_parts(kind: Kind, table: Table) -> list[Schema]:
     for said, held in groups.items():
         names, needed = json.loads(said)
         others = [version for version in table.versions_of(kind.name) if version not in held]
+        # Earlier versions, which lack the kind, are judged as its first.
+        held = [version for version in table.versions if version < kind.since and held[0] == kind.since] + held
         row: Row = {"kinds": [kind.name]}
         row |= {"since": held[0]} if held[-1] == table.versions[-1] and others else {"versions": held} if others else {}
         parts.append({"if": condition(row, table), "then": {"propertyNames": {"enum": names}, "required": needed}})
@@ -143,10 +145,30 @@ def other_parts(table: Table) -> list[Schema]:
     for key in table.keys.values():
         if "needs" in key.row:
             parts.append({"if": {"required": [key.name]}, "then": {"required": [key.row["needs"]]}})
+        without = {"not": {"required": [key.name]}}
         if other := key.row.get("not_beside_texts"):
             texts = {"properties": {other: {"items": {"type": "string"}}}, "required": [other]}
-            parts.append({"if": texts, "then": {"not": {"required": [key.name]}}})
+            parts.append({"if": texts, "then": without})
+        parts += [{"if": condition(row, table), "then": without} for row in key.row.get("not_beside", [])]
     return parts
+
+
+def unmade_parts(table: Table) -> list[Schema]:
+    """Keys and values of which no circuit is made yet, but for those that another key's value decides."""
+    parts = []
+    for key in table.keys.values():
+        for row in (row for row in key.unmade if "above" not in row):
+            rules: Schema = ({"enum": row["but"]} if "but" in row else {}) | ({"maxItems": row["most"]} if "most" in row else {})
+            then: Schema = {"properties": {key.name: rules}} if rules else {"not": {"required": [key.name]}}
+            parts.append({"if": condition(row, table), "then": then | ({"required": [key.name]} if row.get("needed") else {})})
+    return parts
+
+
+def newer_names(table: Table) -> list[Schema]:
+    """The names of documents that later versions alone refuse."""
+    since = table.rows["names"]["document"]["newer_since"]
+    then = {"properties": {"name": {"not": {"enum": table.rows["names"]["newer_words"]}}}}
+    return [{"if": condition({"since": since}, table), "then": then}]
 
 
 def table_of(array: str, table: Table) -> Schema:
@@ -171,7 +193,7 @@ def schema_of(table: Table) -> Schema:
         "description": SAYS,
         "type": "object",
         "additionalProperties": False,
-        "allOf": [*kinds, *version_parts(table), *conditional(keys, table), *other_parts(table)],
+        "allOf": [*kinds, *version_parts(table), *conditional(keys, table), *other_parts(table), *newer_names(table), *unmade_parts(table)],
         "required": [key.name for key in keys if key.is_of_all() and "optional" not in key.row["uses"][0]],
         "properties": {key.name: value_of(key, table) for key in keys},
         "$defs": {"decimal": decimal} | {array: table_of(array, table) for array in table.arrays},

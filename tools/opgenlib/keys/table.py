@@ -39,6 +39,18 @@ def holds(row: Row, values: dict[str, Any]) -> bool:
     return "beside" not in row or found is not None and ("is" not in row or type(found) is type(row["is"]) and found == row["is"])
 
 
+def is_unmade(row: Row, value: Any, values: dict[str, Any]) -> bool:
+    """Whether a row says of a value, none of an absent key, that no circuit is made of it yet."""
+    if value is None:
+        return row.get("needed", False)
+    if "most" in row:
+        return isinstance(value, list) and len(value) > row["most"]
+    if "above" in row:
+        other = values.get(row["above"])
+        return type(value) is type(other) is int and value > other
+    return value not in row.get("but", [])
+
+
 @dataclass(frozen=True)
 class Limits:
     """The ends of a number, of an array's length and of its elements, of a text's bytes, and the most odd parts; none without a limit."""
@@ -125,13 +137,24 @@ class Key:
     def example(self, kind: str | None) -> Any:
         return self.row.get("examples", {}).get(kind, self.row["example"])
 
+    @property
+    def unmade(self) -> list[Row]:
+        return self.row.get("unmade", [])
+
+    def is_unmade(self, kind: str | None, version: int, values: dict[str, Any]) -> bool:
+        """Whether no circuit is made yet of a document, for the value of this key or since it lacks the key."""
+        return any(fits(row, kind, version) and is_unmade(row, values.get(self.name), values) for row in self.unmade)
+
+    def made(self, kind: str | None, version: int) -> list | None:
+        """The values of which circuits are made, none where a row lists no values."""
+        return next((row["but"] for row in self.unmade if fits(row, kind, version) and "but" in row), None)
+
 
 @dataclass(frozen=True)
 class Table:
-    """The whole table, and that with the closed version, by which documents of other versions are judged; none where no version is closed."""
+    """The whole table."""
 
     rows: dict[str, Any]
-    closed: "Table | None" = None
 
     @cached_property
     def versions(self) -> list[int]:
@@ -189,21 +212,17 @@ class Table:
         since = key.row.get("words_since", {})
         return [word for word in words if version >= since.get(word, 1)] if isinstance(words, dict) else None
 
-    def refused(self, names: str) -> list[str]:
-        """The names that a rule of names refuses."""
+    def refused(self, names: str, version: int) -> list[str]:
+        """The names that a rule of names refuses in a version."""
         rule = self.rows["names"][names]
-        return rule["refused"] + self.rows["names"]["words"] + (self.rows["names"]["newer_words"] if rule["newer"] else [])
+        newer = self.rows["names"]["newer_words"] if version >= rule["newer_since"] else []
+        return rule["refused"] + self.rows["names"]["words"] + newer
 
-
-def opened(rows: dict[str, Any]) -> dict[str, Any]:
-    """The rows without closed versions and what these alone have."""
-    closed = {row["number"] for row in rows["version"] if row.get("closed", False)}
-    versions = [row for row in rows["version"] if row["number"] not in closed]
-    keys = [row | {"uses": [use for use in row["uses"] if use.get("since", 1) not in closed]} for row in rows["key"]]
-    return rows | {"version": versions, "key": [row for row in keys if row["uses"]]}
+    def unmade(self, kind: str | None, version: int, values: dict[str, Any]) -> Key | None:
+        """The first key for which no circuit is made yet of a document."""
+        return next((key for key in self.known(kind, version) if key.is_unmade(kind, version, values)), None)
 
 
 @cache
 def read() -> Table:
-    rows = tomllib.loads(PATH.read_text(encoding="utf-8"))
-    return Table(opened(rows), Table(rows))
+    return Table(tomllib.loads(PATH.read_text(encoding="utf-8")))

@@ -1,12 +1,12 @@
 //! What a document says of a quotient of two inputs, both signed or none: its keys, their ranges, and the operator.
 ghost use Rattle.std.specs.Prelude.{◌≡◌};
 ghost use Rattle.toml.specs.View.{table_view};
-ghost use Rattle.opgen_entries.specs.kinds.Pair.{stand, key_outside, clashes, pair_of};
+ghost use Rattle.opgen_entries.specs.kinds.Pair.{stand, key_outside, clashes, recurrence_in, pair_of};
 
 use crate::kinds::input_outside;
 use opgen_document::{
     Key, Stand, Version, flag_at, format_at, near_outside, out_width_outside, overflow_outside,
-    recurrence_outside, small_at,
+    recurrence_outside, small_at, text_at, version_of,
 };
 use opgen_operator::Pair;
 use opgen_ports::Recurrence;
@@ -53,6 +53,20 @@ pub(crate) fn clashes(table: &Table, key: Key) -> bool
     }
 }
 
+// How the digits are found: in version 4 without restoring, unless the document says otherwise.
+fn recurrence_in(version: Version, name: &str) -> Recurrence
+    ensures { result ≡ recurrence_in version name.now }
+{
+    match version {
+        Version::First | Version::Second | Version::Third => Recurrence::Restoring,
+        Version::Fourth => if name == "restoring" {
+            Recurrence::Restoring
+        } else {
+            Recurrence::Nonrestoring
+        },
+    }
+}
+
 pub(crate) fn pair_of(table: &Table) -> Pair
     ensures { result ≡ pair_of (table_view table.now) }
 {
@@ -61,6 +75,6 @@ pub(crate) fn pair_of(table: &Table) -> Pair
         b: format_at(table, Key::WidthB, Key::LsbB),
         out_lsb: small_at(table, Key::OutLsb),
         exact: flag_at(table, Key::Exact),
-        recurrence: Recurrence::Restoring,
+        recurrence: recurrence_in(version_of(table), text_at(table, Key::Recurrence)),
     }
 }

@@ -9,8 +9,8 @@ use Rattle.opgen_ports.proofs.InputPorts.{all_one, some_bits}
 use Rattle.toml.specs.Data.{Members}
 use Rattle.opgen_document.specs.declared.key.Key.TheVariants as key
 use Rattle.opgen_entries.specs.kinds.{kind_of, entry}
-use Rattle.opgen_spec.proofs.sound.Sound.{IsFew, IsSound, none_given, in_third}
-use Rattle.opgen_document.specs.Document.{value_at, text_at, number_at, flag_at, count_at, items_at, small}
+use Rattle.opgen_spec.proofs.sound.Sound.{IsFew, IsSound, none_given}
+use Rattle.opgen_document.specs.Document.{value_at, text_at, number_at, flag_at, count_at, items_at, small, version_of}
 use Rattle.opgen_document.specs.Ranges.{outside, width_outside, coefficients_outside, denominator_outside}
 use Rattle.opgen_entries.specs.kinds.Poly.{poly_of}
 use Rattle.opgen_spec.proofs.Fine.{AreFine, IsFine, own, own_range, not_late}
@@ -18,7 +18,7 @@ use Rattle.opgen_document.proofs.Ranges.{inside, small_same, denominator_in}
 use Rattle.opgen_entries.proofs.Arrays.{array_in}
 use Rattle.opgen_spec.proofs.Ranges.{widest, width_in}
 use Rattle.opgen_document.proofs.Values.{small_written}
-use Rattle.opgen_spec.proofs.Versions.{one_is_first}
+use Rattle.opgen_spec.proofs.Versions.{one_is_first, in_late}
 use Rattle.opgen_spec.proofs.Writing.{width_written, coefs_written}
 
 record HasPoly (ms : Members) : Type 0 where
@@ -103,5 +103,5 @@ poly = record {
   marked = λ ms asked. cc;
   has = λ ms f e is. not_late ms kind.Poly f e refl (one_is_first ms f is);
   names = λ ms f e. none_given (text_at ms key.Name);
-  chosen = λ version closed may. record { third = in_third version closed may; value = λ ms. refl; range = λ ms. refl };
+  chosen = λ ms f e may there. record { late = in_late (version_of ms) may; value = λ ms. refl; range = λ ms. refl };
 }

@@ -6,13 +6,13 @@ use Rattle.opgen_ports.proofs.Marks.{of_bits}
 use Rattle.toml.specs.Data.{Members}
 use Rattle.opgen_document.specs.declared.key.Key.TheVariants as key
 use Rattle.opgen_entries.specs.kinds.{kind_of, entry}
-use Rattle.opgen_spec.proofs.sound.Sound.{IsFew, IsSound, none_given, in_third}
-use Rattle.opgen_document.specs.Document.{value_at, text_at, counters_at}
+use Rattle.opgen_spec.proofs.sound.Sound.{IsFew, IsSound, none_given}
+use Rattle.opgen_document.specs.Document.{value_at, text_at, counters_at, version_of}
 use Rattle.opgen_document.specs.Ranges.{width_outside, power_outside}
 use Rattle.opgen_spec.proofs.Compressors.{IsTaken, compressor_cases, first_without, compressor_written}
 use Rattle.opgen_spec.proofs.Fine.{AreFine, IsFine, own}
 use Rattle.opgen_spec.proofs.Ranges.{widest, width_few, input_in, power_in, three_near}
-use Rattle.opgen_spec.proofs.Versions.{one_is_first}
+use Rattle.opgen_spec.proofs.Versions.{one_is_first, in_late}
 use Rattle.opgen_spec.proofs.Writing.{input_written, power_written, signed_written}
 
 record HasProduct (ms : Members) : Type 0 where
@@ -33,7 +33,7 @@ keys ms f e = record {
   width_b = own ms kind.Multiply key.WidthB f e refl refl;
   lsb_b = own ms kind.Multiply key.LsbB f e refl refl;
   out_lsb = own ms kind.Multiply key.OutLsb f e refl refl;
-  compressor = compressor_cases ms kind.Multiply f e (record { stands = λ version. refl; range = λ ms. refl });
+  compressor = compressor_cases ms kind.Multiply f e (record { stands = λ version. refl; range = λ ms. refl; heap = λ ms made. made });
 }
 
 pub multiply : IsSound kind.Multiply
@@ -62,5 +62,5 @@ multiply = record {
     three_near ms key.LsbA key.LsbB key.OutLsb f h.lsb_a h.lsb_b h.out_lsb,
   );
   names = λ ms f e. none_given (text_at ms key.Name);
-  chosen = λ version closed may. record { third = in_third version closed may; value = λ ms. refl; range = λ ms. refl };
+  chosen = λ ms f e may there. record { late = in_late (version_of ms) may; value = λ ms. refl; range = λ ms. refl };
 }

@@ -66,5 +66,5 @@ mcm = record {
     λ below. early_search ms (early ms f below) (needed ms kind.Mcm key.Extra f e refl),
   );
   names = λ ms f e. none_given (text_at ms key.Name);
-  chosen = λ version closed may. cc;
+  chosen = λ ms f e may there. cc;
 }

@@ -46,5 +46,5 @@ root = record {
   marked = λ ms asked. sym (is_exact-of (flag_at ms key.Exact)) ∙ asked;
   has = λ ms f e. tt;
   names = λ ms f e. none_given (text_at ms key.Name);
-  chosen = λ version closed may. cc;
+  chosen = λ ms f e may there. cc;
 }

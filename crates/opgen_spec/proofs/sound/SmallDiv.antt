@@ -58,5 +58,5 @@ constdiv = record {
     one_near ms key.Lsb f (keys ms f e).lsb,
   );
   names = λ ms f e. none_given (text_at ms key.Name);
-  chosen = λ version closed may. cc;
+  chosen = λ ms f e may there. cc;
 }

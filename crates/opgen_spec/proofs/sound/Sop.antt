@@ -1,10 +1,10 @@
 -- Sums of products of a document without a fault.
-use Rattle.std.proofs.Common.{◌≡◌, ℕ, ◌+◌, ◌≤◌, ◌&&◌, ◌||◌, ◌⊎◌, inl, inr, not, Bool, true, false, cond, List, [], ◌∷◌, length, Option, Some, None, is_some, option_and_then, find, refl, ap, sym, subst, ◌∙◌, arith, lit<, if◌then◌else◌}
-use Rattle.std.specs.Prelude.{ℤ, pos, negsuc, ◌≤ℤ◌}
+use Rattle.std.proofs.Common.{◌≡◌, ℕ, ◌+◌, ◌≤◌, ◌&&◌, ◌||◌, ◌⊎◌, inl, inr, not, Bool, true, false, cond, List, [], ◌∷◌, length, Option, Some, None, is_some, option_and_then, find, refl, ap, sym, subst, ◌∙◌, arith, lit<, nat_le, if◌then◌else◌}
+use Rattle.std.specs.Prelude.{ℤ, pos, negsuc, ◌≤ℤ◌, int_le}
 use Rattle.std.specs.List.{list_all}
 use Rattle.std.specs.Option.{option_map_or}
 use Rattle.std.specs.Str.{bytes_eq}
-use Rattle.std.proofs.lemmas.Bool.{and_parts}
+use Rattle.std.proofs.lemmas.Bool.{and_parts, leb-true}
 use Rattle.std.proofs.lemmas.Int.{ints}
 use Rattle.toml.specs.Data.{Data, integer, Items, no_items, item, Members, as_integer}
 use Rattle.opgen_operator.specs.Operator.{kind_name}
@@ -20,26 +20,28 @@ use Rattle.opgen_document.specs.declared.key.Key.{Key}
 use Rattle.opgen_document.specs.declared.key.Key.TheVariants as key
 use Rattle.opgen_document.specs.declared.key.Version.{Version}
 use Rattle.opgen_document.specs.declared.key.Version.TheVariants.{First, Second, Third, Fourth}
-use Rattle.opgen_document.specs.Document.{value_at, number_in, number_at, text_at, flag_at, counters_at, items_at, list_of, is_empty, in_tables, IsNumberAsWritten, version_of}
+use Rattle.opgen_document.specs.Document.{value_at, number_in, number_at, text_at, flag_at, counters_at, items_at, list_of, is_empty, in_tables, IsNumberAsWritten, version_of, version_number}
 use Rattle.opgen_document.specs.Keys.{line_keys}
 use Rattle.opgen_document.specs.Numbers.{are_texts, given_denominator}
-use Rattle.opgen_document.specs.Ranges.{length_outside, power_outside, numerator_outside, denominator_outside}
+use Rattle.opgen_document.specs.Ranges.{outside, length_outside, power_outside, numerator_outside, denominator_outside}
 use Rattle.opgen_document.specs.Types.{is_wrong}
 use Rattle.opgen_document.proofs.Ranges.{inside, zero_inside, given_in}
 use Rattle.opgen_document.proofs.Values.{IsNumber, number_stands, text_stands}
 use Rattle.opgen_entries.specs.kinds.{early_kinds, kind_named, kind_of, entry}
 use Rattle.opgen_entries.specs.kinds.Sop.{most_inputs, most_products, has_no_terms, scaled_outside, input_of, scaled_of, times_of, sop_of, factor_outside, IsInputAsWritten, IsScaledAsWritten, IsTimesAsWritten}
 use Rattle.opgen_spec.specs.Faults.{kind_outside}
+use Rattle.opgen_spec.specs.Made.{is_heap, are_few, has_few_terms}
 use Rattle.opgen_spec.proofs.ArrayLines.{IsFineLine, IsAmong, line_fine, line_typed, all_fine, lines_written, lines_in, read_length, few_items}
 use Rattle.opgen_spec.proofs.Compressors.{IsTaken, compressor_cases, compressor_written}
 use Rattle.opgen_spec.proofs.Fine.{AreFine, IsFine, own, own_range, typed, not_found}
+use Rattle.opgen_spec.proofs.Made.{kind_made}
 use Rattle.opgen_spec.proofs.InputLines.{narrow, input_in, input_written, input_count, all_inputs, input_names, IsFactor, factor}
 use Rattle.opgen_spec.proofs.Ranges.{widest, power_in}
-use Rattle.opgen_spec.proofs.Versions.{third_is_three, not_fourth}
+use Rattle.opgen_spec.proofs.Versions.{IsEarly, count_is, in_late, late}
 use Rattle.opgen_spec.proofs.Writing.{power_written, optional_flag_written}
-use Rattle.opgen_spec.proofs.sound.Sound.{IsFew, IsSound, in_third}
+use Rattle.opgen_spec.proofs.sound.Sound.{IsFew, IsSound}
 
--- only version 3 can name the kind
+-- versions 1 and 2 cannot name the kind
 abbrev is_sop : Kind → Bool
 is_sop kind.Sop = true
 is_sop _ = false
@@ -61,14 +63,54 @@ none_early : list_all (λ one. not (is_sop one)) early_kinds ≡ true
 unfolding early_kinds
 none_early = refl
 
-third : (ms : Members) → AreFine ms → kind_of ms ≡ Some kind.Sop → version_of ms ≡ Third
-third ms f e = by (version_of ms) refl e
+not_early : (ms : Members) → kind_of ms ≡ Some kind.Sop → IsEarly (version_of ms) → ⊥
+not_early ms e is_early = by (version_of ms) e is_early
   where
-    by : (version : Version) → version_of ms ≡ version → kind_named version (text_at ms key.Kind) ≡ Some kind.Sop → version_of ms ≡ Third
-    by First is e = absurd (not_named (λ one. bytes_eq (kind_name one) (text_at ms key.Kind)) early_kinds none_early e)
-    by Second is e = absurd (not_named (λ one. bytes_eq (kind_name one) (text_at ms key.Kind)) early_kinds none_early e)
-    by Third is e = is
-    by Fourth is e = absurd (not_fourth ms f is)
+    by : (version : Version) → kind_named version (text_at ms key.Kind) ≡ Some kind.Sop → IsEarly version → ⊥
+    by First e is_early = not_named (λ one. bytes_eq (kind_name one) (text_at ms key.Kind)) early_kinds none_early e
+    by Second e is_early = not_named (λ one. bytes_eq (kind_name one) (text_at ms key.Kind)) early_kinds none_early e
+    by Third e is_early = is_early
+    by Fourth e is_early = is_early
+
+-- of version 4 those are made that have as few inputs and products as version 3 allows
+few : (ms : Members) → AreFine ms → kind_of ms ≡ Some kind.Sop → version_of ms ≡ Fourth
+    → (are_few (items_at ms key.Input) ≡ true) × (are_few (items_at ms key.Product) ≡ true)
+few ms f e fourth =
+    and_parts (are_few (items_at ms key.Input)) (are_few (items_at ms key.Product))
+    (and_parts (is_heap ms) (has_few_terms ms) (kind_made ms kind.Sop f e fourth)).1
+
+few_only : (least most n : ℕ) → outside (pos least) (pos most) (pos n) ≡ None → nat_le n 16 ≡ true → outside (pos least) (pos 16) (pos n) ≡ None
+few_only least most n h small =
+    let (fewest, _) = inside (pos least) (pos most) (pos n) h in
+    let limit = leb-true n 16 small in
+    let above : int_le (pos least) (pos n) ≡ true = grind (arith, ints) in
+    let below : int_le (pos n) (pos 16) ≡ true = grind (arith, ints) in
+    rw (above, below) refl
+
+few_inputs : (ms : Members) → AreFine ms → kind_of ms ≡ Some kind.Sop
+    → length_outside 1 (most_inputs (version_of ms)) (items_at ms key.Input) ≡ None → length_outside 1 16 (items_at ms key.Input) ≡ None
+few_inputs ms f e none = by (version_of ms) refl none
+  where
+    by : (version : Version) → version_of ms ≡ version → length_outside 1 (most_inputs version) (items_at ms key.Input) ≡ None
+        → length_outside 1 16 (items_at ms key.Input) ≡ None
+    by First is none = none
+    by Second is none = none
+    by Third is none = none
+    by Fourth is none = few_only 1 48 (length (list_of (items_at ms key.Input))) none (few ms f e is).0
+
+few_products : (ms : Members) → AreFine ms → kind_of ms ≡ Some kind.Sop
+    → option_and_then (λ _. length_outside 0 (most_products (version_of ms)) (items_at ms key.Product)) (value_at ms key.Product) ≡ None
+    → option_and_then (λ _. length_outside 0 16 (items_at ms key.Product)) (value_at ms key.Product) ≡ None
+few_products ms f e none = by (version_of ms) refl (value_at ms key.Product) none
+  where
+    by : (version : Version) → version_of ms ≡ version → (o : Option Data)
+        → option_and_then (λ _. length_outside 0 (most_products version) (items_at ms key.Product)) o ≡ None
+        → option_and_then (λ _. length_outside 0 16 (items_at ms key.Product)) o ≡ None
+    by First is o none = none
+    by Second is o none = none
+    by Third is o none = none
+    by Fourth is None none = refl
+    by Fourth is (Some d) none = few_only 0 32 (length (list_of (items_at ms key.Product))) none (few ms f e is).1
 
 record HasSop (ms : Members) : Type 0 where
   fine : AreFine ms
@@ -92,13 +134,12 @@ keys ms f e = record {
   out_lsb = own ms kind.Sop key.OutLsb f e refl refl;
   den = own_range ms kind.Sop key.Denominator f e refl;
   offset = own_range ms kind.Sop key.Offset f e refl;
-  inputs = subst (λ version. IsFine ms key.Input (length_outside 1 (most_inputs version) (items_at ms key.Input))) (third ms f e)
-      (own ms kind.Sop key.Input f e refl refl);
+  inputs = let h = own ms kind.Sop key.Input f e refl refl in
+      record { there = h.there; typed = h.typed; within = few_inputs ms f e h.within };
   scaled = ap (option_and_then (λ one. (entry one).key_outside ms key.Scaled)) (sym e)
       ∙ always (is_some (value_at ms key.Scaled)) (kind_outside ms key.Scaled) (not_found ms key.Scaled f refl);
-  products = subst (λ version. option_and_then (λ _. length_outside 0 (most_products version) (items_at ms key.Product)) (value_at ms key.Product)
-      ≡ None) (third ms f e) (own_range ms kind.Sop key.Product f e refl);
-  compressor = compressor_cases ms kind.Sop f e (record { stands = λ version. refl; range = λ ms. refl });
+  products = few_products ms f e (own_range ms kind.Sop key.Product f e refl);
+  compressor = compressor_cases ms kind.Sop f e (record { stands = λ version. refl; range = λ ms. refl; heap = λ ms made. (and_parts (is_heap ms) (has_few_terms ms) made).0 });
 }
 
 scaled_among : IsAmong array.Scaled 0 key.ScaledInput
@@ -242,15 +283,22 @@ den_written ms typed = by (value_at ms key.Denominator) refl typed
     by (Some (integer n)) some typed = inl some
     by (Some _) some typed = cc
 
+-- all versions but the first have inputs of 48 bits
+wide : (ms : Members) → AreFine ms → (IsEarly (version_of ms) → ⊥) → 48 ≤ widest ms
+wide ms f is_late = subst (λ n. 48 ≤ most_input n) (sym (count_is ms f)) (by (version_of ms) is_late)
+  where
+    by : (version : Version) → (IsEarly version → ⊥) → 48 ≤ most_input (version_number version)
+    by First is_late = absurd (is_late tt)
+    by Second is_late = omega arith
+    by Third is_late = omega arith
+    by Fourth is_late = omega arith
+
 pub sop : IsSound kind.Sop
 unfolding entry
 sop = record {
   kind_is = λ ms. refl;
   ranges = λ ms f e. sop_in ms (keys ms f e);
-  inputs = λ ms f e.
-      let three = third_is_three ms f (third ms f e) in
-      let most : widest ms ≡ 48 = ap most_input three in
-      all_inputs ms f (IsFew ms) (λ n line fine. omega (arith, narrow ms n line fine, most));
+  inputs = λ ms f e. all_inputs ms f (IsFew ms) (λ n line fine. omega (arith, narrow ms n line fine, wide ms f (not_early ms e)));
   written = λ ms f e. let h = keys ms f e in record {
     inputs = lines_written IsInputAsWritten input_of array.Input ms (input_written ms) 1 (items_at ms key.Input) (all_fine array.Input ms f);
     scaled = lines_written (IsScaledAsWritten (in_tables input_of (items_at ms key.Input))) (scaled_of (items_at ms key.Input)) array.Scaled ms
@@ -264,7 +312,7 @@ sop = record {
   };
   agrees = λ ms. refl;
   marked = λ ms asked. sym (is_exact-of (flag_at ms key.Exact)) ∙ asked;
-  has = λ ms f e. let three = third_is_three ms f (third ms f e) in omega (arith, three);
+  has = λ ms f e. late ms f (not_early ms e);
   names = λ ms f e. input_names ms f;
-  chosen = λ version closed may. record { third = in_third version closed may; value = λ ms. refl; range = λ ms. refl };
+  chosen = λ ms f e may there. record { late = in_late (version_of ms) may; value = λ ms. refl; range = λ ms. refl };
 }

@@ -1,5 +1,5 @@
 -- What is proved of each kind in a file of its own.
-use Rattle.std.proofs.Common.{◌≡◌, ◌≤◌, ℕ, true, List, [], Some, refl, arith}
+use Rattle.std.proofs.Common.{◌≡◌, ◌≤◌, ℕ, true, List, [], Some, is_some, arith}
 use Rattle.std.specs.Prelude.{IsTrue}
 use Rattle.toml.specs.Data.{Members}
 use Rattle.opgen_operator.specs.declared.kind.Kind.{Kind}
@@ -12,13 +12,13 @@ use Rattle.opgen_operator.specs.Valid.{AgreesOnExact}
 use Rattle.opgen_operator.proofs.Listed.{given_by}
 use Rattle.opgen_document.specs.declared.key.Key.TheVariants as key
 use Rattle.opgen_document.specs.declared.key.Version.{Version}
-use Rattle.opgen_document.specs.declared.key.Version.TheVariants.{First, Second, Third, Fourth}
-use Rattle.opgen_document.specs.Document.{text_at, flag_at, count_at, since_third}
+use Rattle.opgen_document.specs.Document.{value_at, text_at, flag_at, count_at, version_of}
 use Rattle.opgen_document.specs.Keys.{may_be}
 use Rattle.opgen_document.specs.Ranges.{out_width_outside}
 use Rattle.opgen_entries.specs.kinds.{kind_of, entry, IsOperatorAsWritten}
 use Rattle.opgen_spec.proofs.Fine.{AreFine}
 use Rattle.opgen_spec.proofs.Ranges.{widest}
+use Rattle.opgen_spec.proofs.Versions.{IsEarly}
 
 -- no input has more bits than the version lets it have
 abbrev pub IsFew : Members → PortFormat → Type 0
@@ -26,16 +26,9 @@ IsFew ms p = p.format.width ≤ widest ms
 
 -- a kind whose output may have a chosen width in a version
 pub record IsChosen (one : Kind) (version : Version) : Type 0 where
-  pub third : version ≡ Third
+  pub late : IsEarly version → ⊥
   pub value : (ms : Members) → may_be_cut ((entry one).make ms) ≡ true
   pub range : (ms : Members) → (entry one).key_outside ms key.OutWidth ≡ out_width_outside ms
-
--- the fourth version is closed
-pub in_third : (version : Version) → (version ≡ Fourth → ⊥) → may_be (since_third version) ≡ true → version ≡ Third
-in_third First closed may = cc
-in_third Second closed may = cc
-in_third Third closed may = refl
-in_third Fourth closed may = absurd (closed refl)
 
 -- a kind whose inputs are not named by the document
 pub none_given : (name : List ℕ) → AreGivenNames name []
@@ -56,5 +49,6 @@ pub record IsSound (one : Kind) : Type 0 where
   pub has : (ms : Members) → AreFine ms → kind_of ms ≡ Some one → IsInVersion (count_at ms key.Version) ((entry one).make ms)
   -- the names that the document gives to its inputs are such names
   pub names : (ms : Members) → AreFine ms → kind_of ms ≡ Some one → AreGivenNames (text_at ms key.Name) (given_names ((entry one).make ms))
-  -- where it has the key for the width of its output, that width may be chosen
-  pub chosen : (version : Version) → (version ≡ Fourth → ⊥) → may_be ((entry one).stand version key.OutWidth) ≡ true → IsChosen one version
+  -- where the document has the key for the width of its output, that width may be chosen
+  pub chosen : (ms : Members) → AreFine ms → kind_of ms ≡ Some one → may_be ((entry one).stand (version_of ms) key.OutWidth) ≡ true
+      → is_some (value_at ms key.OutWidth) ≡ true → IsChosen one (version_of ms)

@@ -6,8 +6,8 @@ use Rattle.opgen_ports.proofs.InputPorts.{all_one}
 use Rattle.toml.specs.Data.{Members}
 use Rattle.opgen_document.specs.declared.key.Key.TheVariants as key
 use Rattle.opgen_entries.specs.kinds.{kind_of, entry}
-use Rattle.opgen_spec.proofs.sound.Sound.{IsFew, IsSound, none_given, in_third}
-use Rattle.opgen_document.specs.Document.{value_at, text_at, items_at, flag_at, count_at, small_at, counters_at}
+use Rattle.opgen_spec.proofs.sound.Sound.{IsFew, IsSound, none_given}
+use Rattle.opgen_document.specs.Document.{value_at, text_at, items_at, flag_at, count_at, small_at, counters_at, version_of}
 use Rattle.opgen_document.specs.Ranges.{width_outside, power_outside, coefficients_outside, denominator_outside}
 use Rattle.opgen_ports.proofs.Marks.{is_exact-of, exact_or_faithful, of_bits}
 use Rattle.opgen_ports.specs.Recipes.{compressor_of, has_counters}
@@ -18,7 +18,7 @@ use Rattle.opgen_spec.proofs.Fine.{AreFine, IsFine, own, own_range}
 use Rattle.opgen_document.proofs.Ranges.{denominator_in}
 use Rattle.opgen_entries.proofs.Arrays.{array_in}
 use Rattle.opgen_spec.proofs.Ranges.{widest, width_few, input_in, power_in, two_near}
-use Rattle.opgen_spec.proofs.Versions.{one_is_first}
+use Rattle.opgen_spec.proofs.Versions.{one_is_first, in_late}
 use Rattle.opgen_spec.proofs.Writing.{input_written, power_written, signed_written, coefs_written}
 
 -- what is known of the keys of a scale, or of a filter
@@ -74,7 +74,7 @@ scale_keys ms f e = record {
   out_lsb = own ms kind.Scale key.OutLsb f e refl refl;
   coefs = own ms kind.Scale key.Coefficients f e refl refl;
   den = own_range ms kind.Scale key.Denominator f e refl;
-  compressor = compressor_cases ms kind.Scale f e (record { stands = λ version. refl; range = λ ms. refl });
+  compressor = compressor_cases ms kind.Scale f e (record { stands = λ version. refl; range = λ ms. refl; heap = λ ms made. made });
 }
 
 fir_keys : (ms : Members) → AreFine ms → kind_of ms ≡ Some kind.Fir → HasSum 256 ms
@@ -87,7 +87,7 @@ fir_keys ms f e = record {
   out_lsb = own ms kind.Fir key.OutLsb f e refl refl;
   coefs = own ms kind.Fir key.Coefficients f e refl refl;
   den = own_range ms kind.Fir key.Denominator f e refl;
-  compressor = compressor_cases ms kind.Fir f e (record { stands = λ version. refl; range = λ ms. refl });
+  compressor = compressor_cases ms kind.Fir f e (record { stands = λ version. refl; range = λ ms. refl; heap = λ ms made. made });
 }
 
 pub scale : IsSound kind.Scale
@@ -101,7 +101,7 @@ scale = record {
   marked = λ ms asked. sym (is_exact-of (flag_at ms key.Exact)) ∙ asked;
   has = λ ms f e. sum_has 1 ms (scale_keys ms f e);
   names = λ ms f e. none_given (text_at ms key.Name);
-  chosen = λ version closed may. record { third = in_third version closed may; value = λ ms. refl; range = λ ms. refl };
+  chosen = λ ms f e may there. record { late = in_late (version_of ms) may; value = λ ms. refl; range = λ ms. refl };
 }
 
 pub fir : IsSound kind.Fir
@@ -115,5 +115,5 @@ fir = record {
   marked = λ ms asked. sym (is_exact-of (flag_at ms key.Exact)) ∙ asked;
   has = λ ms f e. sum_has 256 ms (fir_keys ms f e);
   names = λ ms f e. none_given (text_at ms key.Name);
-  chosen = λ version closed may. record { third = in_third version closed may; value = λ ms. refl; range = λ ms. refl };
+  chosen = λ ms f e may there. record { late = in_late (version_of ms) may; value = λ ms. refl; range = λ ms. refl };
 }

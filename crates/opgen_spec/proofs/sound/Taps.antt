@@ -10,7 +10,7 @@ use Rattle.opgen_ports.proofs.InputPorts.{all_one}
 use Rattle.toml.specs.Data.{Data, integer, Items, Members}
 use Rattle.opgen_document.specs.declared.key.Key.TheVariants as key
 use Rattle.opgen_entries.specs.kinds.{kind_of, entry}
-use Rattle.opgen_spec.proofs.sound.Sound.{IsFew, IsSound, none_given, in_third}
+use Rattle.opgen_spec.proofs.sound.Sound.{IsFew, IsSound, none_given}
 use Rattle.opgen_document.specs.Document.{value_at, text_at, items_at, small_at, version_of, is_searched}
 use Rattle.opgen_document.specs.Numbers.{numerators}
 use Rattle.opgen_document.specs.Ranges.{width_outside, power_outside, array_outside, constant_limit}
@@ -22,7 +22,7 @@ use Rattle.opgen_document.proofs.Ranges.{inside}
 use Rattle.opgen_spec.proofs.Ranges.{widest, width_few, input_in, power_in, one_near, within_more}
 use Rattle.opgen_entries.proofs.Arrays.{or_none, array_in}
 use Rattle.opgen_spec.proofs.Searches.{IsExtra, extra_few, no_extra, search_written, early_search}
-use Rattle.opgen_spec.proofs.Versions.{IsEarly, early, one_is_first, not_in_early}
+use Rattle.opgen_spec.proofs.Versions.{IsEarly, early, in_late, one_is_first, not_in_early}
 use Rattle.opgen_spec.proofs.Writing.{input_written, power_written, signed_written}
 
 record HasTaps (ms : Members) : Type 0 where
@@ -145,5 +145,5 @@ tfir = record {
     ),
   );
   names = λ ms f e. none_given (text_at ms key.Name);
-  chosen = λ version closed may. record { third = in_third version closed may; value = λ ms. refl; range = λ ms. refl };
+  chosen = λ ms f e may there. record { late = in_late (version_of ms) may; value = λ ms. refl; range = λ ms. refl };
 }

@@ -7,7 +7,7 @@ use Rattle.opgen_pipe.specs.Cells.{design_cells}
 use Rattle.opgen_pipe.specs.Copies.{net_latency, signal_count}
 use Rattle.opgen_pipe.specs.Pipelined.{design_of}
 use Rattle.opgen_pipe.proofs.Fitting.{latency-few}
-use Rattle.opgen_pipe.proofs.Timed.{plan-in_time, plan-is_least}
+use Rattle.opgen_pipe.proofs.Timed.{plan-has_few, plan-in_time, plan-is_least}
 use Rattle.opgen_pipe.proofs.planning.plan.Goals as goal
 
 pub overflow_cast-result : goal.overflow_cast-result
@@ -33,11 +33,17 @@ returns-clause-outcome g c =
 pub returns-clause-fits : goal.returns-clause-fits
 returns-clause-fits g c =
     let o = returns-clause-outcome g c in
-    plan-in_time _ c.args.period c.args.net.now c.requires.valid c.args.name.now c.args.enable _ o.0 o.2
+    plan-in_time c.args.timing.placing _ c.args.timing.period c.args.net.now c.requires.valid c.args.name.now c.args.enable _ o.0 o.2
 
 pub returns-clause-least : goal.returns-clause-least
 returns-clause-least g c =
-    let o = returns-clause-outcome g c in plan-is_least _ c.args.period c.args.net.now c.requires.valid _ o.2.latency
+    let o = returns-clause-outcome g c in
+    plan-is_least c.args.timing.placing _ c.args.timing.period c.args.net.now c.requires.valid _ o.0 o.2.latency
+
+pub returns-clause-few : goal.returns-clause-few
+returns-clause-few g c =
+    let o = returns-clause-outcome g c in
+    plan-has_few c.args.timing.placing _ c.args.timing.period c.args.net.now c.requires.valid o.0
 
 pub returns-clause-ledger : goal.returns-clause-ledger
 returns-clause-ledger g c = λ class.

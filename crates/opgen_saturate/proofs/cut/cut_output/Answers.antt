@@ -1,5 +1,4 @@
-use Rattle.std.proofs.Common.{◌≡◌, Some, None, sym, subst, ◌∙◌}
-use Rattle.std.specs.Prelude.{OnOk}
+use Rattle.std.proofs.Common.{◌≡◌, None, sym, subst, ◌∙◌}
 use Rattle.std.proofs.lemmas.Result.{IfOk-weaker}
 use Rattle.opgen_operator.specs.Fits.{FitsSpec}
 use Rattle.opgen_operator.specs.Outputs.{mode_of}
@@ -7,11 +6,11 @@ use Rattle.opgen_operator.proofs.Accepted.{plain_fits}
 use Rattle.opgen_saturate.proofs.ChosenNets.{cut_formats, cut_fits_by}
 use Rattle.opgen_saturate.proofs.cut.cut_output.Goals as goal
 
-pub saturate_output-requires-clause-net : goal.saturate_output-requires-clause-net
-saturate_output-requires-clause-net c = (c.requires.fits (mode_of c.args.spec.now) c.requires.valid.mode).valid
+pub convert_output-requires-clause-net : goal.convert_output-requires-clause-net
+convert_output-requires-clause-net c = (c.requires.fits (mode_of c.args.spec.now) c.requires.valid.mode).valid
 
-pub saturate_output-requires-clause-formats : goal.saturate_output-requires-clause-formats
-saturate_output-requires-clause-formats c =
+pub convert_output-requires-clause-formats : goal.convert_output-requires-clause-formats
+convert_output-requires-clause-formats c =
     let some : c.args.spec.now.out_width ≡ None → ⊥ = λ none. (let both = sym (c.cut.ensures.none.1 none) ∙ c.in-Some.is in cc) in
     cut_formats c.args.spec.now c.args.net.now c.requires.valid c.requires.fits c.in-Some.cut.from c.in-Some.cut.to
     some c.in-Some.ensures.from c.in-Some.ensures.to
@@ -21,7 +20,7 @@ returns-in-Some-clause-fits c =
     let some : c.args.spec.now.out_width ≡ None → ⊥ = λ none. (let both = sym (c.cut.ensures.none.1 none) ∙ c.in-Some.is in cc) in
     let fits = cut_fits_by c.args.spec.now c.args.net.now c.requires.valid c.requires.fits c.in-Some.cut.from c.in-Some.cut.to
     some c.in-Some.ensures.from c.in-Some.ensures.to in
-    IfOk-weaker c.saturate_output.result _ _ (λ _ e. subst (FitsSpec c.args.spec.now) (sym e) fits) c.saturate_output.ensures.ok
+    IfOk-weaker c.convert_output.result _ _ (λ _ e. subst (FitsSpec c.args.spec.now) (sym e) fits) c.convert_output.ensures.ok
 
 pub returns-in-None-clause-fits : goal.returns-in-None-clause-fits
 returns-in-None-clause-fits c =

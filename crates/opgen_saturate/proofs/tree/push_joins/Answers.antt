@@ -5,7 +5,7 @@ use Rattle.opgen_net.specs.declared.node.Node.TheVariants.{Cells}
 use Rattle.opgen_net.specs.Placed.{with_last}
 use Rattle.opgen_net.specs.Valid.{widths}
 use Rattle.opgen_saturate.specs.Recipe.{any_node, joins, share, with_joins}
-use Rattle.opgen_saturate.specs.Saturates.{AreBits}
+use Rattle.opgen_saturate.specs.Converts.{AreBits}
 use Rattle.opgen_saturate.proofs.Groups.{joins-more, share-some}
 use Rattle.opgen_saturate.proofs.Joins.{join-bits}
 use Rattle.opgen_saturate.proofs.tree.push_joins.Goals as goal

@@ -1,7 +1,7 @@
 use Rattle.std.proofs.Common.{◌≡◌, ◌-◌, ◌<◌, length}
 use Rattle.opgen_net.specs.Valid.{IsValid, widths}
 use Rattle.opgen_saturate.specs.Recipe.{joins, with_joins}
-use Rattle.opgen_saturate.specs.Saturates.{AreBits}
+use Rattle.opgen_saturate.specs.Converts.{AreBits}
 use Rattle.opgen_saturate.proofs.tree.push_joins.Given as goal
 
 -- the cells that join what is left end the whole tree

@@ -3,7 +3,7 @@ use Rattle.opgen_net.specs.declared.net.Net.{Net}
 use Rattle.opgen_net.specs.Valid.{widths}
 use Rattle.opgen_num.specs.declared.format.Format.{Format}
 use Rattle.opgen_saturate.specs.Recipe.{first_dropped, followed, with_row, joins, with_joins, with_test}
-use Rattle.opgen_saturate.specs.Saturates.{AreBits}
+use Rattle.opgen_saturate.specs.Converts.{AreBits}
 use Rattle.opgen_saturate.proofs.Tested.{row, row-there, row-bits, tested-some}
 use Rattle.opgen_saturate.proofs.tree.test.Goals as goal
 

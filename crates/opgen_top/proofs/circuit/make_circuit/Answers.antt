@@ -13,16 +13,16 @@ pub returns-in-Ok-clause-circuit : goal.returns-in-Ok-clause-circuit
 returns-in-Ok-clause-circuit g c = record {
   table = _;
   of_target = c.in_ok-target.ensures.table;
-  of_table = planned_circuit c.args.spec.now c.args.enable _ c.in_ok-built.built.net _ c.as_str-name.ensures c.in_ok-built.ensures.net
-      c.in-Ok.planned _ c.in_ok-built.ensures.adders c.in-Ok.ensures.outcome;
+  of_table = planned_circuit c.args.spec.now c.args.enable _ c.in_ok-built.built.net c.in_ok-built.ensures.net c.in-Ok.planned _
+      c.in_ok-built.ensures.adders c.in-Ok.ensures;
 }
 
 pub returns-clause-refused : goal.returns-clause-refused
 returns-clause-refused g c =
     plan_refused _ c.args.spec.now _ c.in_ok-target.ensures.table c.refuse_plan.result
     (refusal-map c.refuse_plan.result _ _
-    (λ a told. unplanned_refused c.args.spec.now c.args.enable _ c.in_ok-built.built.net _ c.as_str-name.ensures c.in_ok-built.ensures.net
-    c.in-Err.fault a c.in-Err.ensures.outcome told) c.refuse_plan.ensures)
+    (λ a told. unplanned_refused c.args.spec.now c.args.enable _ c.in_ok-built.built.net c.in_ok-built.ensures.net c.in-Err.fault a
+    c.in-Err.ensures told) c.refuse_plan.ensures)
 
 pub returns-clause-listed : goal.returns-clause-listed
 returns-clause-listed g c = refusal-map c.refuse_plan.result _ _ (unplanned_listed c.in-Err.fault) c.refuse_plan.ensures

@@ -1,0 +1,2 @@
+mod Widest
+pub mod Made
